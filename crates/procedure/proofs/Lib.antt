@@ -1,0 +1,11 @@
+pub mod Base
+pub mod Frame
+pub mod Ending
+pub mod Copies
+pub mod Arithmetic
+pub mod Steps
+pub mod Faults
+pub mod Maps
+pub mod Results
+pub mod Fronts
+pub mod Bounds

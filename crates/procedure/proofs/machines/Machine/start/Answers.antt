@@ -1,0 +1,13 @@
+use Rattle.std.proofs.Common.{List, [], ap, ◌∙◌}
+use Rattle.procedure.specs.Bytes.{Cell}
+use Rattle.procedure.specs.Procedures.{Instruction, Procedure}
+use Rattle.procedure.specs.Runs.{Execution, at_start}
+use Rattle.procedure.proofs.machines.Machine.start.Goals as goal
+
+pub returns : goal.returns
+returns g c =
+    let started : List Instruction → List Cell → List Cell → Execution =
+    λ code registers replies. record { args = c.args.args; progress = record (at_start code) { registers = registers; replies = replies } } in
+    ap (λ r. started c.code.inside.code r c.in_ok-replies.replies.items) c.in_ok-registers.ensures
+    ∙ ap (started c.code.inside.code (at_start []).registers) c.in_ok-replies.ensures.items
+    ∙ ap (λ (p : Procedure). started p.code (at_start []).registers []) (c.code.view_is ∙ c.in_ok-code.ensures.cases)

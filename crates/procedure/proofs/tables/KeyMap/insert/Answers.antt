@@ -1,0 +1,25 @@
+use Rattle.std.proofs.Common.{◌≡◌, None, IsSome, subst, sym, ◌∙◌, ap}
+use Rattle.std.proofs.lemmas.Bool.{false≢true}
+use Rattle.std.specs.FinMap.{get, insert}
+use Rattle.procedure.specs.Table.{KeyMap}
+use Rattle.procedure.proofs.Maps.{get-map_of, map_of-insert}
+use Rattle.procedure.proofs.tables.KeyMap.insert.Goals as goal
+
+pub returns-in_err-insert-clause-memory : goal.returns-in_err-insert-clause-memory
+returns-in_err-insert-clause-memory g c =
+    let absent : get c.args.self.now c.args.key ≡ None =
+    ap (λ (m : KeyMap g.row.V.Denot). get m c.args.key) (sym c.self.view_is)
+    ∙ get-map_of c.self.inside.entries.entries c.args.key
+    ∙ c.in_err-insert.ensures.absent in
+    λ present. absurd (false≢true (subst (λ o. IsSome o) absent present))
+
+pub returns-clause-before : goal.returns-clause-before
+returns-clause-before g c =
+    c.in_ok-insert.ensures.old
+    ∙ sym (get-map_of c.self.inside.entries.entries c.args.key)
+    ∙ ap (λ (m : KeyMap g.row.V.Denot). get m c.args.key) c.self.view_is
+
+pub returns-clause-ok : goal.returns-clause-ok
+returns-clause-ok g c =
+    map_of-insert c.self.inside.entries.entries c.insert.new.self.entries c.args.key c.args.value c.in_ok-insert.ensures.updates.0
+    ∙ ap (λ (m : KeyMap g.row.V.Denot). insert m c.args.key c.args.value) c.self.view_is

@@ -1,0 +1,12 @@
+pub mod Bytes
+pub mod Keys
+pub mod Table
+pub mod Needs
+pub mod Procedures
+pub mod Runs
+pub mod Copies
+pub mod Catalogs
+pub mod CatalogBytes
+pub mod Actions
+pub mod Machines
+pub mod Fronts

@@ -1,0 +1,160 @@
+//! The machine that executes a call one instruction at a time.
+
+ghost use Rattle.std.specs.Prelude.{◌≡◌, IfOk, OnOk, OnErr, option_copied, replicate, slice_set, None};
+ghost use Rattle.procedure.specs.Needs.{CopiesValue, HasValue};
+ghost use Rattle.procedure.specs.Runs.{advanced, at_start, next_need};
+
+use crate::actions::{Action, action_of, need_of};
+use crate::instructions::{Instr, Procedure};
+use crate::limits::REGISTERS;
+use crate::memory::NoMemory;
+use crate::needs::Need;
+use crate::outcomes::COMMITTED;
+use crate::sequences::Sequence;
+use crate::values::Value;
+use std::alloc::{AllocError, Allocator};
+use std::marker::Model;
+
+/// A call in its course, seen by contracts as its arguments and its progress: what is left of the
+/// procedure, registers, replies, outcome.
+///
+/// It sees no table: `next` says which key comes next and `fed` is told what that key holds. So the
+/// instructions of several calls may be executed in any order.
+#[derive(Drop)]
+pub struct Machine<A: Allocator> {
+    alloc: A,
+    code: Sequence<Instr<Value<A>>, A>,
+    args: Sequence<Value<A>, A>,
+    place: usize,
+    registers: Vec<Option<Value<A>>, A>,
+    replies: Vec<Option<Value<A>>, A>,
+    outcome: u8,
+}
+
+impl<A: Allocator> Model for Machine<A> {
+    ghost use Rattle.procedure.specs.Runs.{Execution};
+
+    ghost Value = { Execution };
+
+    ghost use Rattle.procedure.specs.Machines.{execution_of, IsRunning};
+
+    ghost view = { execution_of };
+
+    ghost invariant = { IsRunning };
+}
+
+fn absent_registers<A: Allocator>(alloc: A) -> Result<Vec<Option<Value<A>>, A>, AllocError>
+    ensures { IfOk result (λ r. r.items ≡ replicate REGISTERS None) }
+{
+    let mut registers = Vec::with_capacity(alloc, REGISTERS)?;
+    for _register in 0..REGISTERS {
+        registers.push_reserved(None);
+    }
+    Ok(registers)
+}
+
+fn set_register<A: Allocator>(
+    registers: &mut Vec<Option<Value<A>>, A>,
+    register: u8,
+    cell: Option<Value<A>>,
+)
+    ensures { registers.new.items ≡ slice_set registers.old.items register cell }
+{
+    let index = usize::from(register);
+    if index < registers.len() {
+        registers[index] = cell;
+    }
+}
+
+impl<A: Allocator + Clone> Machine<A> {
+    /// A machine at the start of a call. It copies the procedure and makes room for all replies, so
+    /// that no step needs any. An argument that the procedure names and that isn't there is absent.
+    pub fn start(
+        alloc: A,
+        procedure: &Procedure<A>,
+        args: Sequence<Value<A>, A>,
+    ) -> Result<Self, NoMemory>
+        ensures { IfOk result (λ m. m ≡ record { args = args; progress = at_start procedure.now.code }) }
+    {
+        let Procedure { arity: _, code } = procedure.clone()?;
+        let registers = absent_registers(alloc.clone()?)?;
+        let replies = Vec::with_capacity(alloc.clone()?, code.len())?;
+        Ok(Machine {
+            alloc,
+            code,
+            args,
+            place: 0,
+            registers,
+            replies,
+            outcome: COMMITTED,
+        })
+    }
+
+    /// What the next instruction asks for, or how the call ended. Only the copy of a value that is
+    /// written takes memory.
+    pub fn next(&self) -> Result<Need<Value<A>>, NoMemory>
+        ensures value { IfOk result (λ n. n ≡ next_need self.now.args self.now.progress) }
+        ensures memory { OnErr result (HasValue (next_need self.now.args self.now.progress)) }
+    {
+        match self.code.get(self.place) {
+            Some(instruction) => {
+                let args = self.args.as_slice();
+                let registers = self.registers.as_slice();
+                need_of(instruction, args, registers)
+            }
+            None => Ok(Need::Ended(self.outcome)),
+        }
+    }
+
+    /// Executes the next instruction, where its key holds `found` (None where it touches no key).
+    /// Only an instruction that reads, or that touches no key, takes memory. A call that has ended
+    /// stays as it is.
+    pub fn fed(&mut self, found: Option<&Value<A>>) -> Result<(), NoMemory>
+        ensures ok { OnOk result (self.new ≡ record self.old {
+          progress = advanced self.old.args self.old.progress (option_copied found.entry);
+        }) }
+        ensures err { OnErr result (self.new ≡ self.old) }
+        ensures memory { OnErr result (CopiesValue (next_need self.old.args self.old.progress)) }
+    {
+        let end = self.code.len();
+        let Some(instruction) = self.code.get(self.place) else {
+            return Ok(());
+        };
+        let args = self.args.as_slice();
+        let registers = self.registers.as_slice();
+        match action_of(&self.alloc, instruction, args, registers, found)? {
+            Action::Set(register, cell) => {
+                set_register(&mut self.registers, register, cell);
+                self.place += 1;
+            }
+            Action::Load(register, cell, reply) => {
+                set_register(&mut self.registers, register, cell);
+                self.replies.push_reserved(reply);
+                self.place += 1;
+            }
+            Action::Pass => self.place += 1,
+            Action::End(code) => {
+                self.place = end;
+                self.outcome = code;
+            }
+        }
+        Ok(())
+    }
+}
+
+impl<A: Allocator> Machine<A> {
+    /// The replies so far, one of each read.
+    pub fn replies(&self) -> &[Option<Value<A>>]
+        ensures { result.now ≡ self.now.progress.replies }
+    {
+        self.replies.as_slice()
+    }
+
+    /// The arguments and the replies, without taking memory.
+    pub fn into_parts(self) -> (Sequence<Value<A>, A>, Sequence<Option<Value<A>>, A>)
+        ensures args { result.0 ≡ self.args }
+        ensures replies { result.1 ≡ self.progress.replies }
+    {
+        (self.args, Sequence::new(self.replies))
+    }
+}

@@ -1,0 +1,259 @@
+//! A procedure run whole, alone on a table.
+//!
+//! This is the plain program that tells what a call does: recovery runs on it, and the engine, which
+//! executes the instructions of many calls between one another, is measured by it.
+
+ghost use Rattle.std.specs.Prelude.{◌≡◌, ◌==◌, ◌↔◌, if◌then◌else◌, [], Contains, IfOk, List, IsTrue, OnOk, map, option_copied};
+ghost use Rattle.procedure.specs.Bytes.{Bytes, Cell};
+ghost use Rattle.procedure.specs.Copies.{run};
+ghost use Rattle.procedure.specs.Fronts.{IsEnd, IsFront};
+ghost use Rattle.procedure.specs.Needs.{change_of, touch_of};
+ghost use Rattle.procedure.specs.Procedures.{Instruction};
+ghost use Rattle.procedure.specs.Runs.{advanced, advanced_alone, changes_alone, committed, ended, seen_at, whole};
+ghost use Rattle.procedure.specs.Table.{change_at, changed_or, merged, no_changes, value_at, with_cell, with_cells, with_change_of};
+
+use crate::instructions::Procedure;
+use crate::keys::Key;
+use crate::machines::Machine;
+use crate::memory::NoMemory;
+use crate::needs::Need;
+use crate::outcomes::COMMITTED;
+use crate::sequences::Sequence;
+use crate::tables::{Changes, KeyMap, Table};
+use crate::values::Value;
+use std::alloc::{AllocError, Allocator};
+
+/// What a run leaves beside a table that it only reads.
+#[derive(Debug, Drop)]
+pub struct Alone<A: Allocator> {
+    pub outcome: u8,
+    pub replies: Sequence<Option<Value<A>>, A>,
+    /// What the written keys become; none where the call doesn't commit.
+    pub changes: Changes<A>,
+}
+
+/// What a run leaves of a table.
+#[derive(Debug, Drop)]
+pub struct Finished<A: Allocator> {
+    pub outcome: u8,
+    pub replies: Sequence<Option<Value<A>>, A>,
+    pub table: Table<A>,
+    /// The written keys, in byte order; none where the call doesn't commit.
+    pub written: Sequence<Key, A>,
+}
+
+/// What a key holds for a call that has made these changes.
+fn seen<'a, A: Allocator>(
+    changes: &'a Changes<A>,
+    table: &'a Table<A>,
+    key: &Key,
+) -> Option<&'a Value<A>>
+    ensures { option_copied result ≡ changed_or (change_at changes.now key.now) (value_at table.now key.now) }
+{
+    match changes.get(key) {
+        Some(cell) => cell.as_ref(),
+        None => table.get(key),
+    }
+}
+
+/// What the key of a need holds for a call that has made these changes.
+fn found_alone<'a, A: Allocator>(
+    need: &Need<Value<A>>,
+    changes: &'a Changes<A>,
+    table: &'a Table<A>,
+) -> Option<&'a Value<A>>
+    ensures { option_copied result ≡ seen_at changes.now table.now (touch_of need.now) }
+{
+    match need {
+        Need::Read(key) | Need::Write(key, _) => seen(changes, table, key),
+        Need::Own | Need::Ended(_) => None,
+    }
+}
+
+/// Executes the instruction of this need, and answers the change that it makes.
+fn fed_alone<A: Allocator + Clone>(
+    machine: &mut Machine<A>,
+    changes: &Changes<A>,
+    table: &Table<A>,
+    need: Need<Value<A>>,
+) -> Result<Option<(Key, Option<Value<A>>)>, NoMemory>
+    ensures machine { OnOk result (machine.new ≡ record machine.old {
+      progress = advanced machine.old.args machine.old.progress (seen_at changes.now table.now (touch_of need));
+    }) }
+    ensures change { IfOk result (λ change. change ≡ change_of need (seen_at changes.now table.now (touch_of need))) }
+{
+    let found = found_alone(&need, changes, table);
+    let change = match need {
+        Need::Write(key, update) => match update.becomes(found) {
+            Some(cell) => Some((key, cell)),
+            None => None,
+        },
+        Need::Read(_) | Need::Own | Need::Ended(_) => None,
+    };
+    machine.fed(found)?;
+    Ok(change)
+}
+
+fn note<A: Allocator + Clone>(
+    changes: &mut Changes<A>,
+    change: Option<(Key, Option<Value<A>>)>,
+) -> Result<(), NoMemory>
+    ensures { OnOk result (changes.new ≡ with_change_of changes.old change) }
+{
+    if let Some((key, cell)) = change {
+        changes.insert(key, cell)?;
+    }
+    Ok(())
+}
+
+/// Executes one instruction, or answers the outcome of a call that has ended.
+#[tactic(auto, unfolding(crate::specs::Runs::advanced_alone, crate::specs::Runs::changes_alone))]
+fn step_alone<A: Allocator + Clone>(
+    machine: &mut Machine<A>,
+    changes: &mut Changes<A>,
+    table: &Table<A>,
+) -> Result<Option<u8>, NoMemory>
+    ensures outcome { IfOk result (λ o. o ≡ ended machine.old.progress) }
+    ensures args { OnOk result (machine.new.args ≡ machine.old.args) }
+    ensures progress { OnOk result (machine.new.progress ≡ advanced_alone machine.old.args table.now machine.old.progress changes.old) }
+    ensures changes { OnOk result (changes.new ≡ changes_alone machine.old.args table.now machine.old.progress changes.old) }
+{
+    let need = machine.next()?;
+    if let Need::Ended(outcome) = need {
+        return Ok(Some(outcome));
+    }
+    let change = fed_alone(machine, changes, table, need)?;
+    note(changes, change)?;
+    Ok(None)
+}
+
+/// Executes a machine to its end, and answers the outcome.
+fn run_machine<A: Allocator + Clone>(
+    machine: &mut Machine<A>,
+    changes: &mut Changes<A>,
+    table: &Table<A>,
+) -> Result<u8, NoMemory>
+    ensures { IfOk result (λ o. (code : List Instruction) → IsFront code machine.old.args table.now machine.old changes.old →
+        IsEnd code machine.old.args table.now machine.new changes.new o) }
+{
+    loop {
+        if let Some(outcome) = step_alone(machine, changes, table)? {
+            return Ok(outcome);
+        }
+    }
+}
+
+/// What a call that ended leaves changed.
+#[tactic(auto, unfolding(crate::specs::Table::no_changes))]
+fn kept<A: Allocator>(alloc: A, outcome: u8, changes: Changes<A>) -> Changes<A>
+    ensures { result ≡ (if outcome == COMMITTED then changes else no_changes) }
+{
+    if outcome == COMMITTED {
+        changes
+    } else {
+        Changes::new(alloc)
+    }
+}
+
+/// Runs a procedure whole on a table that it only reads. A call that doesn't commit changes nothing.
+pub fn run_alone<A: Allocator + Clone>(
+    alloc: A,
+    procedure: &Procedure<A>,
+    args: Sequence<Value<A>, A>,
+    table: &Table<A>,
+) -> Result<Alone<A>, NoMemory>
+    ensures outcome { IfOk result (λ r. r.outcome ≡ (whole procedure.now.code args table.now).outcome) }
+    ensures replies { IfOk result (λ r. r.replies ≡ (whole procedure.now.code args table.now).replies) }
+    ensures changes { IfOk result (λ r. r.changes ≡ committed (whole procedure.now.code args table.now)) }
+{
+    let mut machine = Machine::start(alloc.clone()?, procedure, args)?;
+    let mut changes = Changes::new(alloc.clone()?);
+    let outcome = run_machine(&mut machine, &mut changes, table)?;
+    let (_, replies) = machine.into_parts();
+    Ok(Alone {
+        outcome,
+        replies,
+        changes: kept(alloc, outcome, changes),
+    })
+}
+
+fn set_cell<A: Allocator + Clone>(
+    table: &mut Table<A>,
+    change: (Key, Option<Value<A>>),
+) -> Result<(), NoMemory>
+    ensures { OnOk result (table.new ≡ with_cell table.old change.0 change.1) }
+{
+    let (key, cell) = change;
+    match cell {
+        Some(value) => {
+            table.insert(key, value)?;
+        }
+        None => {
+            table.remove(&key);
+        }
+    }
+    Ok(())
+}
+
+/// Applies the changes from the last key to the first.
+fn apply_pairs<A: Allocator + Clone>(
+    table: Table<A>,
+    pairs: Vec<(Key, Option<Value<A>>), A>,
+) -> Result<Table<A>, NoMemory>
+    ensures { IfOk result (λ t. t ≡ with_cells table pairs.items) }
+{
+    let mut table = table;
+    let mut pairs = pairs;
+    while let Some(change) = pairs.pop() {
+        set_cell(&mut table, change)?;
+    }
+    Ok(table)
+}
+
+fn keys_of<A: Allocator>(
+    alloc: A,
+    pairs: &[(Key, Option<Value<A>>)],
+) -> Result<Vec<Key, A>, AllocError>
+    ensures { IfOk result (λ keys. keys.items ≡ map (λ p. p.0) pairs.now) }
+{
+    pairs.iter().map(|pair| pair.0).collect(alloc)
+}
+
+impl<A: Allocator + Clone> KeyMap<Value<A>, A> {
+    /// The table after these changes. With a refusal the table is given up.
+    pub fn merged(self, alloc: A, changes: Changes<A>) -> Result<Self, NoMemory>
+        ensures { IfOk result (λ t. t ≡ merged self changes) }
+    {
+        apply_pairs(self, changes.into_pairs(alloc)?.into_vec())
+    }
+}
+
+/// Runs a procedure whole on a table: what the definition of a run says, carried out. It costs the
+/// size of the procedure and, for each touched key, the logarithm of the table. With a refusal the
+/// table is given up; `run_alone` leaves it.
+pub fn run_whole<A: Allocator + Clone>(
+    alloc: A,
+    procedure: &Procedure<A>,
+    args: Sequence<Value<A>, A>,
+    table: Table<A>,
+) -> Result<Finished<A>, NoMemory>
+    ensures outcome { IfOk result (λ f. f.outcome ≡ (run procedure.now.code args table).outcome) }
+    ensures replies { IfOk result (λ f. f.replies ≡ (run procedure.now.code args table).replies) }
+    ensures table { IfOk result (λ f. f.table ≡ (run procedure.now.code args table).table) }
+    ensures written { IfOk result (λ f. (q : Bytes) → Contains f.written q ↔ IsTrue ((run procedure.now.code args table).written q)) }
+{
+    let Alone {
+        outcome,
+        replies,
+        changes,
+    } = run_alone(alloc.clone()?, procedure, args, &table)?;
+    let pairs = changes.into_pairs(alloc.clone()?)?.into_vec();
+    let written = Sequence::new(keys_of(alloc, pairs.as_slice())?);
+    let table = apply_pairs(table, pairs)?;
+    Ok(Finished {
+        outcome,
+        replies,
+        table,
+        written,
+    })
+}

@@ -1,0 +1,541 @@
+//! Tests of what no clause says: worked examples, limits, and that each call succeeds.
+use super::*;
+use crate::limits::{INSTRUCTIONS, LITERAL_BYTES, PROCEDURES, VALUE_BYTES};
+use Given::{Number, Text};
+use std::alloc::Global;
+use std::process::Abort;
+use std::test::Fail;
+
+type Literal = Value<Global>;
+
+type Code = Vec<Instr<Literal>>;
+
+/// An argument of a row: a text, or a number of 8 bytes.
+#[derive(Clone, Copy)]
+enum Given<'a> {
+    Text(&'a [u8]),
+    Number(u64),
+}
+
+/// A run of one of the example procedures: its number, the arguments, the table before, and the
+/// outcome, replies and table that it leaves.
+#[derive(Clone, Copy)]
+struct Row<'a> {
+    procedure: usize,
+    args: &'a [Given<'a>],
+    before: &'a [(u8, u64)],
+    outcome: u8,
+    replies: &'a [Option<u64>],
+    after: &'a [(u8, u64)],
+}
+
+const GET: usize = 0;
+
+const NEW: usize = 1;
+
+const DEPOSIT: usize = 2;
+
+const MOVE: usize = 3;
+
+const SET: usize = 4;
+
+const DELETE: usize = 5;
+
+const SWAP: usize = 6;
+
+/// The SHA-256 of the 15 bytes of a catalog of `get` alone, by another program.
+const GET_DIGEST: [u8; 32] = [
+    0x7a, 0xc6, 0xf7, 0x45, 0x12, 0xb7, 0xd2, 0x16, 0x51, 0x08, 0x2f, 0x02, 0xb5, 0x95, 0x1e, 0x31,
+    0x2c, 0xb9, 0xce, 0x82, 0x21, 0x66, 0xfa, 0x22, 0xd1, 0x2e, 0xfc, 0xa3, 0x14, 0x45, 0x7e, 0x91,
+];
+
+fn value(alloc: Global, bytes: &[u8]) -> Result<Literal, Fail> {
+    let mut copy = Vec::new(alloc);
+    copy.extend_from_slice(bytes)?;
+    Ok(Value::new(copy).ok_or("too long a value")?)
+}
+
+fn long(alloc: Global, len: usize) -> Result<Vec<u8>, Fail> {
+    Ok(vec![in alloc; 7u8; len]?)
+}
+
+fn procedure(arity: u8, code: Code) -> Procedure<Global> {
+    Procedure {
+        arity,
+        code: Sequence::new(code),
+    }
+}
+
+fn arg(index: u8) -> Operand<Literal> {
+    Operand::Arg(index)
+}
+
+fn reg(index: u8) -> Operand<Literal> {
+    Operand::Reg(index)
+}
+
+fn deposit(alloc: Global) -> Result<Code, Fail> {
+    Ok(vec![in alloc;
+        Instr::Read(0, arg(0)),
+        Instr::AbortIf(Test::Absent(reg(0)), 16),
+        Instr::Add(1, reg(0), arg(1)),
+        Instr::Put(arg(0), reg(1)),
+    ]?)
+}
+
+fn transfer(alloc: Global) -> Result<Code, Fail> {
+    Ok(vec![in alloc;
+        Instr::Read(0, arg(0)),
+        Instr::Read(1, arg(1)),
+        Instr::Sub(0, reg(0), arg(2)),
+        Instr::Add(1, reg(1), arg(2)),
+        Instr::Put(arg(0), reg(0)),
+        Instr::Put(arg(1), reg(1)),
+    ]?)
+}
+
+/// The procedures of the examples: get, new, deposit, move, set, delete, swap.
+fn examples(alloc: Global) -> Result<Catalog<Global>, Fail> {
+    let procedures = vec![in alloc;
+        procedure(1, vec![in alloc; Instr::Read(0, arg(0))]?),
+        procedure(2, vec![in alloc; Instr::Insert(arg(0), arg(1))]?),
+        procedure(2, deposit(alloc)?),
+        procedure(3, transfer(alloc)?),
+        procedure(2, vec![in alloc; Instr::Put(arg(0), arg(1))]?),
+        procedure(1, vec![in alloc; Instr::Delete(arg(0))]?),
+        procedure(
+            2,
+            vec![in alloc; Instr::Read(0, arg(0)), Instr::Put(arg(0), arg(1))]?
+        ),
+    ]?;
+    Ok(Catalog::new(Sequence::new(procedures))?)
+}
+
+fn arguments(alloc: Global, given: &[Given<'_>]) -> Result<Sequence<Literal, Global>, Fail> {
+    let mut args = Vec::new(alloc);
+    for one in given {
+        args.push(match *one {
+            Given::Text(text) => value(alloc, text)?,
+            Given::Number(number) => Value::of_number(alloc, number)?,
+        })?;
+    }
+    Ok(Sequence::new(args))
+}
+
+fn table(alloc: Global, pairs: &[(u8, u64)]) -> Result<Table<Global>, Fail> {
+    let mut made = Vec::new(alloc);
+    for (key, number) in pairs {
+        let key = Key::new(&[*key]).ok_or("no key")?;
+        made.push((key, Value::of_number(alloc, *number)?))?;
+    }
+    Ok(Table::from_pairs(alloc, Sequence::new(made))?)
+}
+
+/// The numbers that a table holds, by the first byte of each key.
+fn numbers(alloc: Global, table: &Table<Global>) -> Result<Vec<(u8, Option<u64>)>, Fail> {
+    let mut found = Vec::new(alloc);
+    for (key, value) in table.iter() {
+        found.push((key.as_bytes()[0], value.as_number()))?;
+    }
+    Ok(found)
+}
+
+fn run_row<R: Abort + AllocGlobal>(
+    rt: &R,
+    catalog: &Catalog<Global>,
+    row: &Row<'_>,
+) -> Result<(), Fail> {
+    let alloc = rt.alloc();
+    let procedure = catalog.procedure(row.procedure).ok_or("no procedure")?;
+    let args = arguments(alloc, row.args)?;
+    let before = table(alloc, row.before)?;
+    let done = run_whole(alloc, procedure, args, before)?;
+    assert_eq!(rt; done.outcome, row.outcome);
+    let mut replies = Vec::new(alloc);
+    for reply in done.replies.as_slice() {
+        replies.push(match reply {
+            Some(value) => value.as_number(),
+            None => None,
+        })?;
+    }
+    assert_eq!(rt; replies.as_slice(), row.replies);
+    let mut after = Vec::new(alloc);
+    for (key, number) in row.after {
+        after.push((*key, Some(*number)))?;
+    }
+    assert_eq!(rt; numbers(alloc, &done.table)?.as_slice(), after.as_slice());
+    Ok(())
+}
+
+/// Each outcome of the worked procedures.
+const ROWS: [Row<'static>; 18] = [
+    Row {
+        procedure: GET,
+        args: &[Text(b"a")],
+        before: &[(b'a', 5)],
+        outcome: 0,
+        replies: &[Some(5)],
+        after: &[(b'a', 5)],
+    },
+    Row {
+        procedure: GET,
+        args: &[Text(b"a")],
+        before: &[],
+        outcome: 0,
+        replies: &[None],
+        after: &[],
+    },
+    Row {
+        procedure: NEW,
+        args: &[Text(b"a"), Number(5)],
+        before: &[],
+        outcome: 0,
+        replies: &[],
+        after: &[(b'a', 5)],
+    },
+    Row {
+        procedure: NEW,
+        args: &[Text(b"a"), Number(6)],
+        before: &[(b'a', 5)],
+        outcome: 1,
+        replies: &[],
+        after: &[(b'a', 5)],
+    },
+    Row {
+        procedure: DEPOSIT,
+        args: &[Text(b"z"), Number(1)],
+        before: &[],
+        outcome: 16,
+        replies: &[None],
+        after: &[],
+    },
+    Row {
+        procedure: DEPOSIT,
+        args: &[Text(b"a"), Number(1)],
+        before: &[(b'a', 5)],
+        outcome: 0,
+        replies: &[Some(5)],
+        after: &[(b'a', 6)],
+    },
+    Row {
+        procedure: DEPOSIT,
+        args: &[Text(b"a"), Number(u64::MAX)],
+        before: &[(b'a', 1)],
+        outcome: 4,
+        replies: &[Some(1)],
+        after: &[(b'a', 1)],
+    },
+    Row {
+        procedure: DEPOSIT,
+        args: &[Text(b"a"), Text(b"1")],
+        before: &[(b'a', 1)],
+        outcome: 3,
+        replies: &[Some(1)],
+        after: &[(b'a', 1)],
+    },
+    Row {
+        procedure: MOVE,
+        args: &[Text(b"a"), Text(b"b"), Number(9)],
+        before: &[(b'a', 5), (b'b', 0)],
+        outcome: 4,
+        replies: &[Some(5), Some(0)],
+        after: &[(b'a', 5), (b'b', 0)],
+    },
+    Row {
+        procedure: MOVE,
+        args: &[Text(b"a"), Text(b"b"), Number(2)],
+        before: &[(b'a', 5), (b'b', 0)],
+        outcome: 0,
+        replies: &[Some(5), Some(0)],
+        after: &[(b'a', 3), (b'b', 2)],
+    },
+    Row {
+        procedure: MOVE,
+        args: &[Text(b"a"), Text(b"a"), Number(2)],
+        before: &[(b'a', 5)],
+        outcome: 0,
+        replies: &[Some(5), Some(5)],
+        after: &[(b'a', 7)],
+    },
+    Row {
+        procedure: SET,
+        args: &[Text(b"b"), Number(1)],
+        before: &[(b'c', 3)],
+        outcome: 0,
+        replies: &[],
+        after: &[(b'b', 1), (b'c', 3)],
+    },
+    Row {
+        procedure: SET,
+        args: &[Text(b""), Number(1)],
+        before: &[],
+        outcome: 5,
+        replies: &[],
+        after: &[],
+    },
+    Row {
+        procedure: SET,
+        args: &[Text(&[7; 33]), Number(1)],
+        before: &[],
+        outcome: 5,
+        replies: &[],
+        after: &[],
+    },
+    Row {
+        procedure: SET,
+        args: &[Text(b"a")],
+        before: &[],
+        outcome: 6,
+        replies: &[],
+        after: &[],
+    },
+    Row {
+        procedure: DELETE,
+        args: &[Text(b"a")],
+        before: &[(b'a', 1), (b'b', 2)],
+        outcome: 0,
+        replies: &[],
+        after: &[(b'b', 2)],
+    },
+    Row {
+        procedure: DELETE,
+        args: &[Text(b"a")],
+        before: &[],
+        outcome: 2,
+        replies: &[],
+        after: &[],
+    },
+    Row {
+        procedure: SWAP,
+        args: &[Text(b"a"), Number(2)],
+        before: &[(b'a', 1)],
+        outcome: 0,
+        replies: &[Some(1)],
+        after: &[(b'a', 2)],
+    },
+];
+
+#[test]
+fn worked_runs(rt: HostRuntime) -> Result<(), Fail> {
+    let catalog = examples(rt.alloc())?;
+    for row in &ROWS {
+        run_row(&rt, &catalog, row)?;
+    }
+    Ok(())
+}
+
+#[test]
+fn catalog_bytes(rt: HostRuntime) -> Result<(), Fail> {
+    let alloc = rt.alloc();
+    let get = vec![in alloc; procedure(1, vec![in alloc; Instr::Read(0, arg(0))]?)]?;
+    let bytes = Catalog::new(Sequence::new(get))?.to_bytes()?;
+    assert_eq!(rt;
+        bytes.as_slice(),
+        b"CALCCAT1\x01\x01\x01\x01\x00\x00\x00".as_slice()
+    );
+    let all = examples(alloc)?.to_bytes()?;
+    let third = all.as_slice().get(22..44).ok_or("short")?;
+    // Of DEPOSIT: read r0 $0, abort 16 absent r0, add r1 r0 $1, put $0 r1.
+    let deposit =
+        b"\x02\x04\x01\x00\x00\x00\x07\x01\x01\x00\x10\x05\x01\x01\x00\x00\x01\x02\x00\x00\x01\x01";
+    assert_eq!(rt; third, deposit.as_slice());
+    Ok(())
+}
+
+#[test]
+fn digest_of_a_catalog(rt: HostRuntime) -> Result<(), Fail> {
+    let alloc = rt.alloc();
+    let get = vec![in alloc; procedure(1, vec![in alloc; Instr::Read(0, arg(0))]?)]?;
+    let digest = Catalog::new(Sequence::new(get))?.digest()?;
+    assert_eq!(rt; digest.as_slice(), GET_DIGEST.as_slice());
+    Ok(())
+}
+
+fn refused(alloc: Global, arity: u8, code: Code) -> Result<Option<CatalogError>, Fail> {
+    let one = vec![in alloc; procedure(arity, code)]?;
+    Ok(Catalog::new(Sequence::new(one)).err())
+}
+
+#[test]
+fn refused_catalogs(rt: HostRuntime) -> Result<(), Fail> {
+    let alloc = rt.alloc();
+    let mut many = Vec::new(alloc);
+    for _ in 0..PROCEDURES + 1 {
+        many.push(procedure(0, Vec::new(alloc)))?;
+    }
+    let too_many = Catalog::new(Sequence::new(many)).err();
+    assert_eq!(rt; too_many, Some(CatalogError::TooMany));
+    let mut steps = Vec::new(alloc);
+    for _ in 0..INSTRUCTIONS + 1 {
+        steps.push(Instr::Delete(reg(9)))?;
+    }
+    assert_eq!(rt; refused(alloc, 9, steps)?, Some(CatalogError::TooLong));
+    let literal = Operand::Lit(value(alloc, long(alloc, LITERAL_BYTES + 1)?.as_slice())?);
+    let allowed = Operand::Lit(value(alloc, long(alloc, LITERAL_BYTES)?.as_slice())?);
+    let rows = vec![in alloc;
+        (9, Instr::Delete(arg(8)), Some(CatalogError::BadArgument)),
+        (8, Instr::Delete(arg(8)), Some(CatalogError::BadArgument)),
+        (8, Instr::Delete(arg(7)), None),
+        (0, Instr::Read(8, arg(0)), Some(CatalogError::BadRegister)),
+        (1, Instr::Read(7, arg(0)), None),
+        (
+            0,
+            Instr::Add(7, reg(8), arg(0)),
+            Some(CatalogError::BadRegister)
+        ),
+        (
+            0,
+            Instr::Sub(7, arg(0), reg(8)),
+            Some(CatalogError::BadArgument)
+        ),
+        (
+            0,
+            Instr::Put(reg(0), literal),
+            Some(CatalogError::BadLiteral)
+        ),
+        (0, Instr::Insert(allowed, reg(7)), None),
+        (
+            0,
+            Instr::AbortIf(Test::Absent(reg(7)), 15),
+            Some(CatalogError::BadCode)
+        ),
+        (
+            0,
+            Instr::AbortIf(Test::Equal(arg(0), reg(8)), 15),
+            Some(CatalogError::BadArgument)
+        ),
+        (1, Instr::AbortIf(Test::Below(arg(0), reg(7)), 16), None),
+    ]?;
+    for (arity, instruction, fault) in rows {
+        assert_eq!(rt; refused(alloc, arity, vec![in alloc; instruction]?)?, fault);
+    }
+    Ok(())
+}
+
+#[test]
+fn limits_of_keys_and_values(rt: HostRuntime) -> Result<(), Fail> {
+    let alloc = rt.alloc();
+    for (len, is_key) in [(0usize, false), (1, true), (32, true), (33, false)] {
+        let bytes = long(alloc, len)?;
+        assert_eq!(rt; Key::new(bytes.as_slice()).is_some(), is_key, "{len} bytes");
+    }
+    let key = Key::new(b"ab").ok_or("no key")?;
+    let longer = Key::new(b"ab\0").ok_or("no key")?;
+    assert!(rt; key < longer && key != longer && key == key);
+    for (len, is_value) in [
+        (0usize, true),
+        (VALUE_BYTES, true),
+        (VALUE_BYTES + 1, false),
+    ] {
+        assert_eq!(rt;
+            Value::new(long(alloc, len)?).is_some(),
+            is_value,
+            "{len} bytes"
+        );
+    }
+    assert_eq!(rt;
+        value(alloc, b"12345678")?.as_number(),
+        Some(0x3132_3334_3536_3738)
+    );
+    assert_eq!(rt; value(alloc, b"1234567")?.as_number(), None);
+    assert_eq!(rt;
+        Value::of_number(alloc, 258)?.into_bytes().as_slice(),
+        b"\0\0\0\0\0\0\x01\x02".as_slice()
+    );
+    assert!(rt; Value::empty(alloc).as_bytes().is_empty());
+    Ok(())
+}
+
+fn reads(machine: &Machine<Global>, key: &[u8]) -> Result<bool, Fail> {
+    match machine.next()? {
+        Need::Read(read) => Ok(read.as_bytes() == key),
+        _ => Ok(false),
+    }
+}
+
+/// The number that the key of the next instruction takes.
+fn writes(machine: &Machine<Global>, found: &Literal) -> Result<Option<u64>, Fail> {
+    match machine.next()? {
+        Need::Write(_, update) => match update.becomes(Some(found)) {
+            Some(Some(value)) => Ok(value.as_number()),
+            _ => Ok(None),
+        },
+        _ => Ok(None),
+    }
+}
+
+fn has_ended(machine: &Machine<Global>, outcome: u8) -> Result<bool, Fail> {
+    match machine.next()? {
+        Need::Ended(code) => Ok(code == outcome),
+        _ => Ok(false),
+    }
+}
+
+fn first_swap(alloc: Global) -> Result<Machine<Global>, Fail> {
+    let catalog = examples(alloc)?;
+    let swap = catalog.procedure(SWAP).ok_or("no procedure")?;
+    let args = arguments(alloc, &[Text(b"a"), Number(2)])?;
+    Ok(Machine::start(alloc, swap, args)?)
+}
+
+/// A machine sees what it is fed, and nothing else.
+#[test]
+fn machine_by_steps(rt: HostRuntime) -> Result<(), Fail> {
+    let held = value(rt.alloc(), b"held")?;
+    let mut machine = first_swap(rt.alloc())?;
+    assert!(rt; reads(&machine, b"a")?);
+    machine.fed(Some(&held))?;
+    assert_eq!(rt; writes(&machine, &held)?, Some(2));
+    machine.fed(Some(&held))?;
+    assert!(rt; has_ended(&machine, 0)?);
+    assert_eq!(rt; machine.replies().len(), 1);
+    let (args, replies) = machine.into_parts();
+    assert_eq!(rt; (args.len(), replies.len()), (2, 1));
+    Ok(())
+}
+
+#[test]
+fn changes_and_tables(rt: HostRuntime) -> Result<(), Fail> {
+    let alloc = rt.alloc();
+    let catalog = examples(alloc)?;
+    assert_eq!(rt; catalog.len(), 7);
+    assert!(rt; !catalog.is_empty() && catalog.procedure(7).is_none());
+    let before = table(alloc, &[(b'b', 2), (b'a', 5)])?;
+    let args = arguments(alloc, &[Given::Text(b"b")])?;
+    let delete = catalog.procedure(DELETE).ok_or("no procedure")?;
+    let done = run_alone(alloc, delete, args, &before)?;
+    assert_eq!(rt; (done.changes.len(), before.len()), (1, 2));
+    let mut after = before.merged(alloc, done.changes)?;
+    let key = Key::new(b"a").ok_or("no key")?;
+    assert_eq!(rt;
+        numbers(alloc, &after)?.as_slice(),
+        [(b'a', Some(5))].as_slice()
+    );
+    assert!(rt; after.insert(key, value(alloc, b"")?)?.is_some());
+    assert!(rt; after.get(&key).is_some() && after.remove(&key).is_some() && after.is_empty());
+    assert!(rt; after.into_pairs(alloc)?.is_empty());
+    Ok(())
+}
+
+/// The example of the README.
+#[test]
+fn embedding(rt: HostRuntime) -> Result<(), Fail> {
+    let alloc = rt.alloc();
+    // new(key, value): insert $0 $1
+    let code = vec![in alloc; Instr::Insert(Operand::Arg(0), Operand::Arg(1))]?;
+    let new = Procedure {
+        arity: 2,
+        code: Sequence::new(code),
+    };
+    let catalog = Catalog::new(Sequence::new(vec![in alloc; new]?))?;
+
+    let key = Value::new(vec![in alloc; b'a']?).ok_or("too long")?;
+    let args = vec![in alloc; key, Value::of_number(alloc, 5)?]?;
+    let procedure = catalog.procedure(0).ok_or("no procedure")?;
+    let done = run_whole(alloc, procedure, Sequence::new(args), Table::new(alloc))?;
+    assert_eq!(rt;
+        (done.outcome, done.table.len(), done.written.len()),
+        (0, 1, 1)
+    );
+    Ok(())
+}
