@@ -72,6 +72,7 @@ impl<T, A: Allocator> Sequence<T, A> {
     pub fn into_vec(self) -> Vec<T, A>
         ensures { result.items ≡ self }
     {
-        self.items
+        let Sequence { items } = self;
+        items
     }
 }

@@ -125,6 +125,7 @@ impl<V: Drop, A: Allocator + Clone> KeyMap<V, A> {
     {
         Ok(self.entries.insert(key, value)?)
     }
+
     /// The map of these pairs. Of two with the same key the later counts.
     pub fn from_pairs(alloc: A, pairs: Sequence<(Key, V), A>) -> Result<Self, NoMemory>
         ensures value { IfOk result (λ m. m ≡ with_pairs map.empty pairs) }

@@ -443,6 +443,7 @@ fn limits_of_keys_and_values(rt: HostRuntime) -> Result<(), Fail> {
         b"\0\0\0\0\0\0\x01\x02".as_slice()
     );
     assert!(rt; Value::empty(alloc).as_bytes().is_empty());
+    assert_eq!(rt; Sequence::<u8, Global>::empty(alloc).len(), 0);
     Ok(())
 }
 

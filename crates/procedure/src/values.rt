@@ -85,7 +85,8 @@ impl<A: Allocator> Value<A> {
     pub fn into_bytes(self) -> Vec<u8, A>
         ensures { result.items ≡ self }
     {
-        self.bytes
+        let Value { bytes } = self;
+        bytes
     }
 }
 
