@@ -1,12 +1,13 @@
 -- Counts of the start phases.
-use Rattle.std.proofs.Common.{◌≡◌, ℕ, zero, suc, ◌+◌, ◌≤◌, ◌↔◌, List, [], ◌∷◌, length, Option, Some, None, slice_get, refl, sym, ap, ◌∙◌, subst, arith, sum_by, lit≤, map, ◌<◌, take, drop, get_or, slice_set, add-one, drop-cons, ◌++◌}
+use Rattle.std.proofs.Common.{◌≡◌, ℕ, zero, suc, ◌+◌, ◌≤◌, ◌↔◌, [], ◌∷◌, length, Option, Some, None, slice_get, refl, sym, ap, ◌∙◌, arith, lit≤, map, ◌<◌, take, drop, get_or, slice_set, add-one, drop-cons, ◌++◌}
 use Rattle.std.proofs.Math.Seq.{take-suc, take-suc-set}
 use Rattle.std.proofs.lemmas.List.{drop-set-lt, map-append, take_all}
 use Rattle.std.proofs.lemmas.Grind.{common_steps}
 use Rattle.std.proofs.lemmas.List.Sums.{sum_by-cons}
-use Rattle.phase.specs.Phases.{Phase, Rest, Prepare, Resolve, Capture, Complete, Starts, AllStartedIn, MayLeave, at_rest}
-use Rattle.phase.specs.Counts.{one_if, counts_one, count_in, IsCounted, Takes, Has, HasNoOthers, IsAtMost}
-use Rattle.phase.specs.declared.Counts.{Counts}
+use Rattle.phase.specs.Phases.{Phase, Rest, Prepare, Resolve, Capture, Complete, Starts, AllStartedIn, MayLeave}
+use Rattle.phase.specs.Counts.{one_if, counts_one, count_in, IsCounted, Takes, HasNoOthers, IsAtMost}
+use Rattle.phase.specs.declared.counts.Counts.{Counts}
+use Rattle.phase.specs.declared.open_calls.TheConstants.{SESSIONS}
 
 one_itself : (p : Phase) → one_if p p ≡ 1
 one_itself Rest = refl
@@ -93,7 +94,7 @@ count_at_most : (p : Phase) (xs : Starts) → count_in p xs ≤ length xs
 count_at_most p [] = lit≤ tt
 count_at_most p (x ∷ xs) = let a = one_at_most p x in let b = count_at_most p xs in let more = count_more p x xs in omega arith
 
-pub counts_at_most : (xs : Starts) (c : Counts) → IsCounted xs c → IsAtMost c 64
+pub counts_at_most : (xs : Starts) (c : Counts) → IsCounted xs c → IsAtMost c SESSIONS
 counts_at_most xs c k =
     record {
       rest = let a = count_at_most Rest xs in let b = k.rest in let c = k.sessions in omega arith;

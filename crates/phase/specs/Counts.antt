@@ -1,7 +1,8 @@
 -- How counts stand for the start phases.
-use Rattle.std.specs.Prelude.{◌≡◌, ℕ, ◌+◌, ◌≤◌, List, Option, Some, None, sum_by, length}
+use Rattle.std.specs.Prelude.{◌≡◌, ℕ, ◌+◌, ◌≤◌, Option, Some, None, sum_by, length}
 use Rattle.phase.specs.Phases.{Phase, Rest, Prepare, Resolve, Capture, Complete, Starts}
-use Rattle.phase.specs.declared.Counts.{Counts}
+use Rattle.phase.specs.declared.counts.Counts.{Counts}
+use Rattle.phase.specs.declared.open_calls.TheConstants.{SESSIONS}
 
 -- 1 for the phase itself, and 0 for another
 abbrev pub one_if : Phase → Phase → ℕ
@@ -21,7 +22,7 @@ abbrev pub count_in : Phase → Starts → ℕ
 count_in p starts = sum_by (counts_one p) starts
 
 pub record IsCounted (starts : Starts) (c : Counts) : Type 0 where
-  pub sessions : length starts ≡ 64
+  pub sessions : length starts ≡ SESSIONS
   pub rest : c.rest ≡ count_in Rest starts
   pub prepare : c.prepare ≡ count_in Prepare starts
   pub resolve : c.resolve ≡ count_in Resolve starts

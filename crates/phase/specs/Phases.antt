@@ -1,7 +1,7 @@
 -- The order of the phases, and when one may be left.
 use Rattle.std.specs.Prelude.{◌≡◌, ℕ, List, Option, Some, None, slice_get, codes}
-pub use Rattle.phase.specs.declared.Phase.{Phase}
-pub use Rattle.phase.specs.declared.Phase.TheVariants.{Rest, Prepare, Resolve, Capture, Complete}
+pub use Rattle.phase.specs.declared.phases.Phase.{Phase}
+pub use Rattle.phase.specs.declared.phases.Phase.TheVariants.{Rest, Prepare, Resolve, Capture, Complete}
 
 -- the phase that follows
 abbrev pub successor : Phase → Phase

@@ -97,8 +97,8 @@ fn test_holds<A: Allocator>(
     }
 }
 
-#[tactic(auto, unfolding(crate::specs::Procedures::need))]
 /// What an instruction asks for; a value that it writes is copied into the answer.
+#[tactic(auto, unfolding(crate::specs::Procedures::need))]
 pub(crate) fn need_of<A: Allocator + Clone>(
     instruction: &Instr<Value<A>>,
     args: &[Value<A>],

@@ -22,6 +22,8 @@ pub mod tables;
 #[cfg(test)]
 mod tests;
 pub mod values;
+#[cfg(test)]
+mod worked_runs;
 
 pub use catalogs::{Catalog, CatalogError};
 pub use instructions::{Call, Instr, Operand, Procedure, Test};

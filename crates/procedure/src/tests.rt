@@ -12,36 +12,24 @@ type Code = Vec<Instr<Literal>>;
 
 /// An argument of a row: a text, or a number of 8 bytes.
 #[derive(Clone, Copy)]
-enum Given<'a> {
+pub(crate) enum Given<'a> {
     Text(&'a [u8]),
     Number(u64),
 }
 
-/// A run of one of the example procedures: its number, the arguments, the table before, and the
-/// outcome, replies and table that it leaves.
-#[derive(Clone, Copy)]
-struct Row<'a> {
-    procedure: usize,
-    args: &'a [Given<'a>],
-    before: &'a [(u8, u64)],
-    outcome: u8,
-    replies: &'a [Option<u64>],
-    after: &'a [(u8, u64)],
-}
+pub(crate) const GET: usize = 0;
 
-const GET: usize = 0;
+pub(crate) const NEW: usize = 1;
 
-const NEW: usize = 1;
+pub(crate) const DEPOSIT: usize = 2;
 
-const DEPOSIT: usize = 2;
+pub(crate) const MOVE: usize = 3;
 
-const MOVE: usize = 3;
+pub(crate) const SET: usize = 4;
 
-const SET: usize = 4;
+pub(crate) const DELETE: usize = 5;
 
-const DELETE: usize = 5;
-
-const SWAP: usize = 6;
+pub(crate) const SWAP: usize = 6;
 
 /// The SHA-256 of the 15 bytes of a catalog of `get` alone, by another program.
 const GET_DIGEST: [u8; 32] = [
@@ -95,7 +83,7 @@ fn transfer(alloc: Global) -> Result<Code, Fail> {
 }
 
 /// The procedures of the examples: get, new, deposit, move, set, delete, swap.
-fn examples(alloc: Global) -> Result<Catalog<Global>, Fail> {
+pub(crate) fn examples(alloc: Global) -> Result<Catalog<Global>, Fail> {
     let procedures = vec![in alloc;
         procedure(1, vec![in alloc; Instr::Read(0, arg(0))]?),
         procedure(2, vec![in alloc; Instr::Insert(arg(0), arg(1))]?),
@@ -111,7 +99,10 @@ fn examples(alloc: Global) -> Result<Catalog<Global>, Fail> {
     Ok(Catalog::new(Sequence::new(procedures))?)
 }
 
-fn arguments(alloc: Global, given: &[Given<'_>]) -> Result<Sequence<Literal, Global>, Fail> {
+pub(crate) fn arguments(
+    alloc: Global,
+    given: &[Given<'_>],
+) -> Result<Sequence<Literal, Global>, Fail> {
     let mut args = Vec::new(alloc);
     for one in given {
         args.push(match *one {
@@ -122,7 +113,7 @@ fn arguments(alloc: Global, given: &[Given<'_>]) -> Result<Sequence<Literal, Glo
     Ok(Sequence::new(args))
 }
 
-fn table(alloc: Global, pairs: &[(u8, u64)]) -> Result<Table<Global>, Fail> {
+pub(crate) fn table(alloc: Global, pairs: &[(u8, u64)]) -> Result<Table<Global>, Fail> {
     let mut made = Vec::new(alloc);
     for (key, number) in pairs {
         let key = Key::new(&[*key]).ok_or("no key")?;
@@ -132,196 +123,15 @@ fn table(alloc: Global, pairs: &[(u8, u64)]) -> Result<Table<Global>, Fail> {
 }
 
 /// The numbers that a table holds, by the first byte of each key.
-fn numbers(alloc: Global, table: &Table<Global>) -> Result<Vec<(u8, Option<u64>)>, Fail> {
+pub(crate) fn numbers(
+    alloc: Global,
+    table: &Table<Global>,
+) -> Result<Vec<(u8, Option<u64>)>, Fail> {
     let mut found = Vec::new(alloc);
     for (key, value) in table.iter() {
         found.push((key.as_bytes()[0], value.as_number()))?;
     }
     Ok(found)
-}
-
-fn run_row<R: Abort + AllocGlobal>(
-    rt: &R,
-    catalog: &Catalog<Global>,
-    row: &Row<'_>,
-) -> Result<(), Fail> {
-    let alloc = rt.alloc();
-    let procedure = catalog.procedure(row.procedure).ok_or("no procedure")?;
-    let args = arguments(alloc, row.args)?;
-    let before = table(alloc, row.before)?;
-    let done = run_whole(alloc, procedure, args, before)?;
-    assert_eq!(rt; done.outcome, row.outcome);
-    let mut replies = Vec::new(alloc);
-    for reply in done.replies.as_slice() {
-        replies.push(match reply {
-            Some(value) => value.as_number(),
-            None => None,
-        })?;
-    }
-    assert_eq!(rt; replies.as_slice(), row.replies);
-    let mut after = Vec::new(alloc);
-    for (key, number) in row.after {
-        after.push((*key, Some(*number)))?;
-    }
-    assert_eq!(rt; numbers(alloc, &done.table)?.as_slice(), after.as_slice());
-    Ok(())
-}
-
-/// Each outcome of the worked procedures.
-const ROWS: [Row<'static>; 18] = [
-    Row {
-        procedure: GET,
-        args: &[Text(b"a")],
-        before: &[(b'a', 5)],
-        outcome: 0,
-        replies: &[Some(5)],
-        after: &[(b'a', 5)],
-    },
-    Row {
-        procedure: GET,
-        args: &[Text(b"a")],
-        before: &[],
-        outcome: 0,
-        replies: &[None],
-        after: &[],
-    },
-    Row {
-        procedure: NEW,
-        args: &[Text(b"a"), Number(5)],
-        before: &[],
-        outcome: 0,
-        replies: &[],
-        after: &[(b'a', 5)],
-    },
-    Row {
-        procedure: NEW,
-        args: &[Text(b"a"), Number(6)],
-        before: &[(b'a', 5)],
-        outcome: 1,
-        replies: &[],
-        after: &[(b'a', 5)],
-    },
-    Row {
-        procedure: DEPOSIT,
-        args: &[Text(b"z"), Number(1)],
-        before: &[],
-        outcome: 16,
-        replies: &[None],
-        after: &[],
-    },
-    Row {
-        procedure: DEPOSIT,
-        args: &[Text(b"a"), Number(1)],
-        before: &[(b'a', 5)],
-        outcome: 0,
-        replies: &[Some(5)],
-        after: &[(b'a', 6)],
-    },
-    Row {
-        procedure: DEPOSIT,
-        args: &[Text(b"a"), Number(u64::MAX)],
-        before: &[(b'a', 1)],
-        outcome: 4,
-        replies: &[Some(1)],
-        after: &[(b'a', 1)],
-    },
-    Row {
-        procedure: DEPOSIT,
-        args: &[Text(b"a"), Text(b"1")],
-        before: &[(b'a', 1)],
-        outcome: 3,
-        replies: &[Some(1)],
-        after: &[(b'a', 1)],
-    },
-    Row {
-        procedure: MOVE,
-        args: &[Text(b"a"), Text(b"b"), Number(9)],
-        before: &[(b'a', 5), (b'b', 0)],
-        outcome: 4,
-        replies: &[Some(5), Some(0)],
-        after: &[(b'a', 5), (b'b', 0)],
-    },
-    Row {
-        procedure: MOVE,
-        args: &[Text(b"a"), Text(b"b"), Number(2)],
-        before: &[(b'a', 5), (b'b', 0)],
-        outcome: 0,
-        replies: &[Some(5), Some(0)],
-        after: &[(b'a', 3), (b'b', 2)],
-    },
-    Row {
-        procedure: MOVE,
-        args: &[Text(b"a"), Text(b"a"), Number(2)],
-        before: &[(b'a', 5)],
-        outcome: 0,
-        replies: &[Some(5), Some(5)],
-        after: &[(b'a', 7)],
-    },
-    Row {
-        procedure: SET,
-        args: &[Text(b"b"), Number(1)],
-        before: &[(b'c', 3)],
-        outcome: 0,
-        replies: &[],
-        after: &[(b'b', 1), (b'c', 3)],
-    },
-    Row {
-        procedure: SET,
-        args: &[Text(b""), Number(1)],
-        before: &[],
-        outcome: 5,
-        replies: &[],
-        after: &[],
-    },
-    Row {
-        procedure: SET,
-        args: &[Text(&[7; 33]), Number(1)],
-        before: &[],
-        outcome: 5,
-        replies: &[],
-        after: &[],
-    },
-    Row {
-        procedure: SET,
-        args: &[Text(b"a")],
-        before: &[],
-        outcome: 6,
-        replies: &[],
-        after: &[],
-    },
-    Row {
-        procedure: DELETE,
-        args: &[Text(b"a")],
-        before: &[(b'a', 1), (b'b', 2)],
-        outcome: 0,
-        replies: &[],
-        after: &[(b'b', 2)],
-    },
-    Row {
-        procedure: DELETE,
-        args: &[Text(b"a")],
-        before: &[],
-        outcome: 2,
-        replies: &[],
-        after: &[],
-    },
-    Row {
-        procedure: SWAP,
-        args: &[Text(b"a"), Number(2)],
-        before: &[(b'a', 1)],
-        outcome: 0,
-        replies: &[Some(1)],
-        after: &[(b'a', 2)],
-    },
-];
-
-#[test]
-fn worked_runs(rt: HostRuntime) -> Result<(), Fail> {
-    let catalog = examples(rt.alloc())?;
-    for row in &ROWS {
-        run_row(&rt, &catalog, row)?;
-    }
-    Ok(())
 }
 
 #[test]

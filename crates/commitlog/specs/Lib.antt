@@ -1,0 +1,5 @@
+pub mod Records
+pub mod Logs
+pub mod Histories
+pub mod Cuts
+pub mod Laws

@@ -1,0 +1,46 @@
+//! Laws of histories, each the contract of a function that does nothing.
+
+ghost use Rattle.commitlog.specs.Laws.{FrontsAreHistories, GrowByOne, KeepsCuts, KeepsImages, LastIsGreatest, NumbersRise, SayByOne, WrittenJoins};
+
+/// A longer log keeps the cut of every checkpoint that it had, the table there, the checkpoint
+/// finished before, and the keys written before it.
+pub fn cuts_law()
+    ensures { KeepsCuts }
+{}
+
+/// An image of a log stays one as the log grows.
+pub fn images_law()
+    ensures { KeepsImages }
+{}
+
+/// A front of a legal, orderly, cyclic history is one.
+pub fn fronts_law()
+    ensures { FrontsAreHistories }
+{}
+
+/// With one record more a history is legal, orderly and cyclic exactly where it was so before and the
+/// record may stand after it.
+pub fn growth_law()
+    ensures { GrowByOne }
+{}
+
+/// The table, phase and numbers after a history with one record more.
+pub fn record_law()
+    ensures { SayByOne }
+{}
+
+/// The keys written between two places are those written up to a place between them and from it on.
+pub fn written_law()
+    ensures { WrittenJoins }
+{}
+
+/// The numbers of a session's calls rise in an orderly history.
+pub fn order_law()
+    ensures { NumbersRise }
+{}
+
+/// The last finished checkpoint of a cyclic history is the greatest finished one, and the last one
+/// finished before a cut is the greatest below it.
+pub fn finished_law()
+    ensures { LastIsGreatest }
+{}

@@ -1,0 +1,6 @@
+pub mod Modes
+pub mod Locks
+pub mod Holders
+pub mod Indexes
+pub mod Tables
+pub mod Changes

@@ -1,0 +1,137 @@
+//! The sessions that hold a lock on one key.
+
+ghost use Rattle.std.specs.Prelude.{◌≡◌, ◌<◌, ◌↔◌, None, Some, IfSome, IsNone, IsSome, IsTrue};
+ghost use Rattle.locktable.specs.Holders.{ChangesTo, IsHeld, Refuses, mode_among, mode_in};
+ghost use Rattle.locktable.specs.Modes.{IsAtMost, stronger};
+
+use crate::modes::Mode;
+use procedure::limits::SESSIONS;
+
+/// The sessions that hold a lock on one key, told by one word: no session can be exclusive beside
+/// another.
+#[derive(Clone, Copy, Debug)]
+pub(crate) enum Holders {
+    /// Session n shares the key where bit n is set.
+    Readers(u64),
+    /// This session alone holds the key.
+    Writer(usize),
+}
+
+impl Holders {
+    pub(crate) fn one(session: usize, mode: Mode) -> Holders
+        requires { session < SESSIONS }
+        ensures { ChangesTo None (Some result) session (Some mode) }
+    {
+        match mode {
+            Mode::Shared => Holders::Readers(1 << session),
+            Mode::Exclusive => Holders::Writer(session),
+        }
+    }
+
+    /// These and a session's lock; None where the lock of another session excludes it.
+    fn with(self, session: usize, mode: Mode) -> Option<Holders>
+        requires { session < SESSIONS }
+        ensures granted { IfSome result (λ holders. ChangesTo (Some self) (Some holders) session (Some (stronger (mode_in self session) mode))) }
+        ensures refused { IsNone result ↔ Refuses (Some self) session mode }
+    {
+        match self {
+            Holders::Writer(writer) if writer == session => Some(self),
+            Holders::Writer(_) => None,
+            Holders::Readers(readers) => readers_with(readers, session, mode),
+        }
+    }
+
+    /// These without a session; None where no other is left.
+    fn without(self, session: usize) -> Option<Holders>
+        requires { session < SESSIONS }
+        ensures others { ChangesTo (Some self) result session None }
+        ensures held { IfSome result IsHeld }
+    {
+        match self {
+            Holders::Writer(writer) if writer == session => None,
+            Holders::Writer(_) => Some(self),
+            Holders::Readers(readers) => readers_without(readers, session),
+        }
+    }
+
+    /// These, where a session's lock becomes no stronger than it is.
+    fn weakened(self, session: usize, mode: Option<Mode>) -> Option<Holders>
+        requires session { session < SESSIONS }
+        requires weaker { IsAtMost mode (mode_in self session) }
+        ensures others { ChangesTo (Some self) result session mode }
+        ensures held { IfSome result IsHeld }
+    {
+        match (self, mode) {
+            (_, None) => self.without(session),
+            (Holders::Writer(_), Some(mode)) => Some(Holders::one(session, mode)),
+            (Holders::Readers(_), Some(_)) => Some(self),
+        }
+    }
+}
+
+fn readers_with(readers: u64, session: usize, mode: Mode) -> Option<Holders>
+    requires { session < SESSIONS }
+    ensures granted { IfSome result (λ holders. ChangesTo (Some (Holders.Readers readers)) (Some holders) session (Some (stronger (mode_in (Holders.Readers readers) session) mode))) }
+    ensures refused { IsNone result ↔ Refuses (Some (Holders.Readers readers)) session mode }
+{
+    match mode {
+        Mode::Shared => Some(Holders::Readers(readers | 1 << session)),
+        Mode::Exclusive if readers & !(1 << session) == 0 => Some(Holders::Writer(session)),
+        Mode::Exclusive => None,
+    }
+}
+
+fn readers_without(readers: u64, session: usize) -> Option<Holders>
+    requires { session < SESSIONS }
+    ensures others { ChangesTo (Some (Holders.Readers readers)) result session None }
+    ensures held { IfSome result IsHeld }
+{
+    let others = readers & !(1 << session);
+    if others == 0 {
+        None
+    } else {
+        Some(Holders::Readers(others))
+    }
+}
+
+/// Whether a key has no holders.
+pub(crate) fn is_nobody(holders: Option<Holders>) -> bool
+    ensures { IsTrue result ↔ (holders ≡ None) }
+{
+    match holders {
+        Some(_) => false,
+        None => true,
+    }
+}
+
+/// The holders of a key, where a session is granted a lock; None where another session's excludes
+/// it.
+pub(crate) fn granted(before: Option<Holders>, session: usize, mode: Mode) -> Option<Holders>
+    requires { session < SESSIONS }
+    ensures granted { IfSome result (λ holders. ChangesTo before (Some holders) session (Some (stronger (mode_among before session) mode))) }
+    ensures refused { IsNone result ↔ Refuses before session mode }
+{
+    match before {
+        Some(holders) => holders.with(session, mode),
+        None => Some(Holders::one(session, mode)),
+    }
+}
+
+/// The holders of a key, where a session's lock becomes no stronger than it is; None where there
+/// is no holder.
+pub(crate) fn weakened(
+    before: Option<Holders>,
+    session: usize,
+    mode: Option<Mode>,
+) -> Option<Holders>
+    requires session { session < SESSIONS }
+    requires weaker { IsAtMost mode (mode_among before session) }
+    ensures others { ChangesTo before result session mode }
+    ensures held { IfSome result IsHeld }
+    ensures present { IsSome result → IsSome before }
+{
+    match before {
+        Some(holders) => holders.weakened(session, mode),
+        None => None,
+    }
+}

@@ -1,6 +1,0 @@
-use Rattle.std.proofs.Common.{◌≡◌, ◌∙◌, sym, ap, length}
-use Rattle.phase.specs.Phases.{Starts}
-use Rattle.phase.proofs.Active.sessions.Goals as goal
-
-pub returns-clause-value : goal.returns-clause-value
-returns-clause-value c = sym c.self.invariant.sessions ∙ ap (λ (xs : Starts). length xs) c.self.view_is

@@ -1,0 +1,23 @@
+use Rattle.std.proofs.Common.{◌∙◌, None, ap, length, arith, ◌<◌, length-set, slice_set}
+use Rattle.phase.specs.Phases.{at_rest, Starts}
+use Rattle.phase.proofs.Counting.{same_here, more_done, less_rest, all_done}
+use Rattle.phase.proofs.open_calls.Active.restart.Goals as goal
+
+pub loop-session-preserved : goal.loop-session-preserved
+loop-session-preserved c =
+    let before : Starts = c.args.self.now in
+    let now : Starts = c.loop-session.self in
+    let i = c.loop-session.session in
+    let kept = c.loop-session.invariant in
+    let within : i < length before = omega arith in
+    let set = c.restart_call.ensures None in
+    record {
+      sessions = ap length set ∙ length-set now i _ ∙ kept.sessions;
+      done = more_done at_rest before now i within kept.sessions kept.done kept.rest None c.restart_call.new.self (set ∙ ap (λ x. slice_set now i (at_rest x)) (same_here at_rest before now i within kept.sessions kept.done kept.rest None));
+      rest = less_rest at_rest before now i within kept.sessions kept.done kept.rest _ c.restart_call.new.self set;
+    }
+
+pub returns : goal.returns
+returns c =
+    let kept = c.loop-session.invariant in
+    all_done at_rest c.args.self.now c.loop-session.self c.loop-session.session (omega arith) kept.sessions kept.done

@@ -1,0 +1,13 @@
+use Rattle.std.proofs.Common.{◌≡◌, ◌-◌, ◌≤◌, None, ◌++◌, length, replicate, vec_capacity}
+use Rattle.record_store.proofs.dead_keys.lengthen.Given as goal
+
+abbrev pub invariant-loop-nodes : goal.invariant-loop-nodes
+invariant-loop-nodes g l = record {
+  items : l.nodes.items ≡ l.fn.nodes.items ++ replicate (length l.nodes.items - length l.fn.nodes.items) None;
+  more : length l.fn.nodes.items ≤ length l.nodes.items;
+  room : l.len ≤ vec_capacity l.nodes;
+  within : length l.nodes.items ≤ l.len;
+}
+
+abbrev pub decreases-loop-nodes : goal.decreases-loop-nodes
+decreases-loop-nodes g l = l.len - length l.nodes.items

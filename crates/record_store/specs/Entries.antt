@@ -1,0 +1,71 @@
+-- How the fields of a store stand for its slots.
+use Rattle.std.specs.Prelude.{ℕ, ◌==◌, Bool, true, not, ◌&&◌, if◌then◌else◌, List, Option, Some, None, is_none, slice_set}
+use Rattle.std.specs.Option.{option_map, option_and_then, option_copied}
+use Rattle.std.specs.Borrow.{Bor}
+use Rattle.slab.specs.Slab.{Slab, get}
+use Rattle.procedure.specs.Bytes.{Bytes, Cell}
+use Rattle.record_store.specs.Stores.{Record}
+use Rattle.record_store.specs.declared.records.Stable.{Stable}
+use Rattle.record_store.specs.declared.records.Stable.TheVariants.{Empty, Was}
+use Rattle.record_store.specs.declared.records.Entry.{Entry}
+use Rattle.record_store.specs.declared.records.Record.{Record as Lent}
+
+module _ {A : Type 0} where
+  abbrev pub stable_seen : ℕ → Entry A → Stable Cell
+  stable_seen number e = if e.copied == number then Was e.stable else Empty
+
+  -- the record that an entry stands for, under the store's number
+  abbrev pub seen : ℕ → Entry A → Record
+  seen number e = record { key = e.key; live = e.live; stable = stable_seen number e; available = e.mark == number; aside = e.aside }
+
+  abbrev pub made : Bytes → ℕ → Entry A
+  made key mark = record { key = key; live = None; stable = None; copied = 0; mark = mark; aside = true }
+
+  -- the key that an entry offers for reclaim
+  abbrev pub offer_of : Entry A → Option Bytes
+  offer_of e = if is_none e.live && not e.aside then Some e.key else None
+
+  abbrev pub live_of : Option (Entry A) → Cell
+  live_of o = option_and_then (λ e. e.live) o
+
+  abbrev pub with_slots : Slab (Entry A) → List (Option (Entry A)) → Slab (Entry A)
+  with_slots s slots = record s { slots = slots }
+
+  -- the entry in the slot is changed so
+  abbrev pub entry_changed : (Entry A → Entry A) → Slab (Entry A) → ℕ → Slab (Entry A)
+  entry_changed f s slot = with_slots s (slice_set s.slots slot (option_map f (get s slot)))
+
+  abbrev pub with_entry_live : Cell → Entry A → Entry A
+  with_entry_live live e = record e { live = live }
+
+  abbrev pub with_entry_stable : Cell → ℕ → Entry A → Entry A
+  with_entry_stable stable copied e = record e { stable = stable; copied = copied }
+
+  abbrev pub with_entry_copy : ℕ → Entry A → Entry A
+  with_entry_copy number e = record e { stable = e.live; copied = number }
+
+  abbrev pub with_entry_mark : ℕ → Entry A → Entry A
+  with_entry_mark mark e = record e { mark = mark }
+
+  abbrev pub with_entry_aside : Bool → Entry A → Entry A
+  with_entry_aside aside e = record e { aside = aside }
+
+  -- neither available nor with a stable version, under any number
+  abbrev pub cleaned : Entry A → Entry A
+  cleaned e = record e { stable = None; copied = 0; mark = 0 }
+
+  abbrev pub key_if_dead : Entry A → Option Bytes
+  key_if_dead e = if is_none e.live then Some e.key else None
+
+  abbrev pub stable_in : ℕ → Option (Entry A) → Stable Cell
+  stable_in number None = Empty
+  stable_in number (Some e) = stable_seen number e
+
+-- what was lent of a stable version
+abbrev pub lent_stable : Stable (Option (Bor Bytes)) → Stable Cell
+lent_stable Empty = Empty
+lent_stable (Was v) = Was (option_copied v)
+
+-- what was lent of a record
+abbrev pub lent_record : {A : Type 0} → Lent A → Record
+lent_record r = record { key = r.key; live = option_copied r.live; stable = lent_stable r.stable; available = r.available; aside = r.aside }

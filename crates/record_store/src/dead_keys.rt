@@ -1,0 +1,262 @@
+//! The least of the keys that dead records offer for reclaim.
+
+ghost use Rattle.std.specs.Prelude.{◌≡◌, ℕ, ◌+◌, ◌<◌, ◌≤◌, ◌↔◌, [], length, OnOk, OnErr, IfSome, IfNone, IsSome, IsTrue, None, Some, slice_set, ◌++◌, replicate, ◌-◌, ◌^◌};
+ghost use Rattle.record_store.specs.DeadKeys.{IsEnlarged, IsLeast, IsMoved, IsPut, IsWonBut, IsWonFrom, Refills, SameFrom, SameOffers, candidate_of, match_at, node_at, offer_at, winner};
+
+use procedure::{Key, NoMemory};
+use std::alloc::{AllocError, Allocator};
+use std::cmp;
+use std::marker::Model;
+
+/// A key that the record of a slot offers.
+#[derive(Clone, Copy)]
+struct Candidate {
+    key: Key,
+    slot: usize,
+}
+
+/// What each slot offers, a key or nothing, seen by contracts as this list. The least is known at
+/// any time, and a change costs the logarithm of the number of slots and no memory.
+///
+/// It is a tournament: the second half of the nodes are the slots' own, and an inner node n is the
+/// winner of the nodes 2n and 2n + 1, so that node 1 is the least of all. A heap would need each
+/// slot's place in it, or keep entries that no longer hold.
+#[derive(Drop)]
+pub struct DeadKeys<A: Allocator> {
+    nodes: Vec<Option<Candidate>, A>,
+    slots: usize,
+}
+
+impl<A: Allocator> Model for DeadKeys<A> {
+    ghost use Rattle.std.specs.Prelude.{List, Option};
+    ghost use Rattle.std.specs.Coded.{coded_list, coded_option, coded_ℕ};
+    ghost use Rattle.procedure.specs.Bytes.{Bytes};
+
+    ghost Value = { List (Option Bytes) };
+
+    ghost coded = { coded_list (coded_option (coded_list coded_ℕ)) };
+
+    ghost use Rattle.record_store.specs.DeadKeys.{offers_of, IsPlayed};
+
+    ghost view = { offers_of };
+
+    ghost invariant = { IsPlayed };
+}
+
+#[tactic(auto, unfolding(crate::specs::DeadKeys::winner))]
+fn winner(one: Option<Candidate>, other: Option<Candidate>) -> Option<Candidate>
+    ensures { result ≡ winner one other }
+{
+    match (one, other) {
+        (None, other) => other,
+        (Some(one), None) => Some(one),
+        (Some(one), Some(other)) => {
+            if other.key < one.key {
+                Some(other)
+            } else {
+                Some(one)
+            }
+        }
+    }
+}
+
+#[tactic(auto, unfolding(crate::specs::DeadKeys::match_at))]
+fn play(nodes: &mut [Option<Candidate>], node: usize)
+    requires { node + node + 1 < length nodes.old }
+    ensures { nodes.new ≡ slice_set nodes.old node (match_at nodes.old node) }
+{
+    nodes[node] = winner(nodes[2 * node], nodes[2 * node + 1]);
+}
+
+/// Plays again on the way from a node that has changed to node 1.
+fn replay(nodes: &mut [Option<Candidate>], slots: usize, changed: usize)
+    requires nodes { length nodes.old ≡ slots + slots }
+    requires within { changed < slots + slots }
+    requires won { IsWonBut nodes.old slots changed }
+    ensures kept { SameFrom nodes.old nodes.new slots }
+    ensures won { IsWonFrom nodes.new slots 1 }
+{
+    let mut node = changed;
+    while node > 1 {
+        node /= 2;
+        play(nodes, node);
+    }
+}
+
+/// Plays at each inner node.
+fn play_all(nodes: &mut [Option<Candidate>], slots: usize)
+    requires nodes { length nodes.old ≡ slots + slots }
+    ensures kept { SameFrom nodes.old nodes.new slots }
+    ensures won { IsWonFrom nodes.new slots 1 }
+{
+    let mut node = slots;
+    while node > 1 {
+        node -= 1;
+        play(nodes, node);
+    }
+}
+
+fn place_of(key: Option<Key>, slot: usize) -> Option<Candidate>
+    ensures { result ≡ candidate_of key slot }
+{
+    match key {
+        Some(key) => Some(Candidate { key, slot }),
+        None => None,
+    }
+}
+
+/// Adds places that offer nothing, up to this many nodes.
+fn lengthen<A: Allocator>(
+    nodes: &mut Vec<Option<Candidate>, A>,
+    len: usize,
+) -> Result<(), AllocError>
+    requires { length nodes.old.items ≤ len }
+    ensures ok { OnOk result (nodes.new.items ≡ nodes.old.items ++ replicate (len - length nodes.old.items) None) }
+    ensures err { OnErr result (nodes.new.items ≡ nodes.old.items) }
+{
+    nodes.reserve(len - nodes.len())?;
+    while nodes.len() < len {
+        nodes.push_reserved(None);
+    }
+    Ok(())
+}
+
+/// Moves the places of slots from behind node `from` to behind node `to`, where there are at least
+/// twice as many.
+fn move_places(nodes: &mut [Option<Candidate>], from: usize, to: usize)
+    requires apart { from + from ≤ to }
+    requires within { to + from ≤ length nodes.old }
+    ensures { IsMoved nodes.old nodes.new from to }
+{
+    for slot in 0..from {
+        nodes[to + slot] = nodes[from + slot];
+    }
+}
+
+/// What wins of all.
+fn root(nodes: &[Option<Candidate>]) -> Option<Candidate>
+    ensures { result ≡ node_at nodes.now 1 }
+{
+    match nodes.get(1) {
+        Some(node) => *node,
+        None => None,
+    }
+}
+
+fn is_present(nodes: &[Option<Candidate>], node: usize) -> bool
+    ensures { IsTrue result ↔ IsSome (node_at nodes.now node) }
+{
+    match nodes.get(node) {
+        Some(node) => node.is_some(),
+        None => false,
+    }
+}
+
+fn put_place(nodes: &mut [Option<Candidate>], slots: usize, slot: usize, key: Option<Key>)
+    requires nodes { length nodes.old ≡ slots + slots }
+    requires within { slot < slots }
+    requires won { IsWonFrom nodes.old slots 1 }
+    ensures put { IsPut nodes.old nodes.new slots slot (candidate_of key slot) }
+    ensures won { IsWonFrom nodes.new slots 1 }
+{
+    let node = slots + slot;
+    nodes[node] = place_of(key, slot);
+    replay(nodes, slots, node);
+}
+
+fn refill(nodes: &mut [Option<Candidate>], slots: usize, wanted: usize)
+    requires more { slots + slots ≤ wanted }
+    requires nodes { length nodes.old ≡ wanted + wanted }
+    ensures kept { Refills nodes.old nodes.new slots wanted }
+    ensures won { IsWonFrom nodes.new wanted 1 }
+{
+    move_places(nodes, slots, wanted);
+    play_all(nodes, wanted);
+}
+
+/// Makes places for more slots, at least twice as many.
+fn enlarge<A: Allocator>(
+    nodes: &mut Vec<Option<Candidate>, A>,
+    slots: usize,
+    wanted: usize,
+) -> Result<(), AllocError>
+    requires nodes { length nodes.old.items ≡ slots + slots }
+    requires more { slots + slots ≤ wanted }
+    requires fits { wanted + wanted < 2 ^ 64 }
+    ensures ok { OnOk result (IsEnlarged nodes.old.items nodes.new.items slots wanted) }
+    ensures won { OnOk result (IsWonFrom nodes.new.items wanted 1) }
+    ensures err { OnErr result (nodes.new.items ≡ nodes.old.items) }
+{
+    lengthen(nodes, wanted + wanted)?;
+    refill(nodes, slots, wanted);
+    Ok(())
+}
+
+/// At least twice the places, so that a growth costs each slot a constant; None where there can't
+/// be so many.
+fn places_for(slot: usize, slots: usize) -> Option<usize>
+    requires { slots + slots < 2 ^ 64 }
+    ensures { IfSome result (λ n. (slot < n) × (slots + slots ≤ n) × (n + n < 2 ^ 64)) }
+{
+    let wanted = cmp::max(slot.checked_add(1)?, slots + slots);
+    wanted.checked_mul(2)?;
+    Some(wanted)
+}
+
+impl<A: Allocator> DeadKeys<A> {
+    /// No slot offers a key, and none has a place. It takes no memory.
+    pub fn new(alloc: A) -> Self
+        ensures { result ≡ [] }
+    {
+        DeadKeys {
+            nodes: Vec::new(alloc),
+            slots: 0,
+        }
+    }
+
+    /// Makes a place for a slot, and changes no offer.
+    pub fn make_place(&mut self, slot: usize) -> Result<(), NoMemory>
+        ensures place { OnOk result (slot < length self.new) }
+        ensures fits { OnOk result (slot + 1 < 2 ^ 64) }
+        ensures no_less { length self.old ≤ length self.new }
+        ensures kept { SameOffers self.old self.new }
+    {
+        if slot < self.slots {
+            return Ok(());
+        }
+        let wanted = places_for(slot, self.slots).ok_or(NoMemory)?;
+        enlarge(&mut self.nodes, self.slots, wanted)?;
+        self.slots = wanted;
+        Ok(())
+    }
+
+    /// The slot offers this key from now on, or nothing.
+    pub fn set(&mut self, slot: usize, key: Option<Key>)
+        requires { slot < length self.old }
+        ensures { self.new ≡ slice_set self.old slot key }
+    {
+        put_place(&mut self.nodes, self.slots, slot, key);
+    }
+
+    /// Does the slot offer a key?
+    pub fn offers(&self, slot: usize) -> bool
+        ensures { IsTrue result ↔ IsSome (offer_at self.now slot) }
+    {
+        let node = match self.slots.checked_add(slot) {
+            Some(node) => node,
+            None => return false,
+        };
+        is_present(&self.nodes, node)
+    }
+
+    /// The slot that offers the least key.
+    pub fn least(&self) -> Option<usize>
+        ensures some { IfSome result (λ slot. IsLeast (offer_at self.now) slot) }
+        ensures none { IfNone result ((slot : ℕ) → offer_at self.now slot ≡ None) }
+    {
+        match root(&self.nodes) {
+            Some(best) => Some(best.slot),
+            None => None,
+        }
+    }
+}

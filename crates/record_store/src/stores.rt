@@ -1,0 +1,299 @@
+//! The store.
+
+ghost use Rattle.std.specs.Prelude.{◌≡◌, ℕ, ◌<◌, ◌≤◌, ◌↔◌, ◌≢◌, [], length, map, IfOk, IfErr, OnOk, OnErr, IsSome, IsTrue, Some, None, Err, ◌+◌, ◌^◌, true, false, nat_eq, max};
+ghost use Rattle.std.specs.Option.{option_map};
+ghost use Rattle.std.specs.Cmp.Lexicographic.{pointwise};
+ghost use Rattle.slab.specs.Slab.{HasRoomFor, Updates, get, slab_len};
+ghost use Rattle.indexmap.specs.IndexMap.{spare, Updates as Notes};
+ghost use Rattle.record_store.specs.DeadKeys.{SameOffers};
+ghost use Rattle.record_store.specs.Entries.{lent_record, made};
+ghost use Rattle.record_store.specs.Fields.{mark_of};
+ghost use Rattle.record_store.specs.Stores.{Finds, IsLeastCandidate, IsOnce, at_rest, changed, key_at, live_at, new_record, reclaimed, record_at, records, stable_at, with_available, with_aside, with_copy, with_live, with_record, with_stable};
+ghost use Rattle.record_store.specs.declared.records.Stable.TheVariants.{Empty};
+ghost use Rattle.record_store.specs.declared.stores.CreateError.TheVariants.{TableFull};
+
+use crate::dead_keys::DeadKeys;
+use crate::records;
+use crate::records::{
+    Entry, Record, Stable, clean_all, copy_of_live, dead_key, lent, remove, renew_offer,
+};
+use indexmap::IndexMap;
+use procedure::{Key, NoMemory, Value};
+use slab::Slab;
+use std::alloc::Allocator;
+use std::cmp;
+use std::hash::{BuildHasherDefault, FoldHasher};
+use std::marker::Model;
+
+/// Records of a store, dead ones counted.
+pub const RECORDS: usize = 100_000;
+
+type Index<A> = IndexMap<Key, usize, BuildHasherDefault<FoldHasher>, A>;
+
+/// Why no record was made.
+#[derive(Clone, Copy, Debug, PartialEq, Eq)]
+pub enum CreateError {
+    /// There are 100,000 records.
+    TableFull,
+    NoMemory,
+}
+
+/// Records in slots, each found by its key, seen by contracts as the list of the slots: vacant, or
+/// with a record.
+///
+/// A record whose live version is absent is dead, and keeps its slot until it is reclaimed. Calls
+/// take the slot's number; where the slot is vacant they change nothing.
+#[derive(Drop)]
+pub struct Store<A: Allocator> {
+    slots: Slab<Entry<A>, A>,
+    index: Index<A>,
+    dead: DeadKeys<A>,
+    used: usize,
+    number: u64,
+}
+
+impl<A: Allocator> Model for Store<A> {
+    ghost use Rattle.record_store.specs.Stores.{Slots};
+
+    ghost Value = { Slots };
+
+    ghost use Rattle.record_store.specs.Fields.{slots_of, IsStore};
+
+    ghost view = { slots_of };
+
+    ghost invariant = { IsStore };
+}
+
+impl<A: Allocator + Copy> Store<A> {
+    /// A store without slots, which takes no memory.
+    pub fn new(alloc: A) -> Self
+        ensures { result ≡ [] }
+    {
+        Store {
+            slots: Slab::new(alloc),
+            index: IndexMap::new(alloc),
+            dead: DeadKeys::new(alloc),
+            used: 0,
+            number: 1,
+        }
+    }
+}
+
+impl<A: Allocator> Store<A> {
+    /// How many slots were used so far, as one more than the greatest number of any.
+    pub fn slots(&self) -> usize
+        ensures { result ≡ length self.now }
+    {
+        self.used
+    }
+
+    /// How many records there are, dead ones counted.
+    pub fn len(&self) -> usize
+        ensures value { result ≡ records self.now }
+        ensures most { records self.now ≤ RECORDS }
+    {
+        self.slots.len()
+    }
+
+    pub fn is_empty(&self) -> bool
+        ensures { IsTrue result ↔ (records self.now ≡ 0) }
+    {
+        self.len() == 0
+    }
+
+    /// The slot of the key's record. No two slots have the same key.
+    pub fn find(&self, key: &Key) -> Option<usize>
+        ensures found { Finds self.now key.now result }
+        ensures once { IsOnce self.now }
+    {
+        self.index.get(key).copied()
+    }
+
+    /// The record of a slot.
+    pub fn slot(&self, slot: usize) -> Option<Record<'_, A>>
+        ensures { option_map lent_record result ≡ record_at self.now slot }
+    {
+        lent(&self.slots, slot, self.number)
+    }
+
+    /// The live version becomes this, and the old one goes back to the caller.
+    pub fn write_live(&mut self, slot: usize, live: Option<Value<A>>) -> Option<Value<A>>
+        ensures before { result ≡ live_at self.old slot }
+        ensures changed { self.new ≡ changed (with_live live) self.old slot }
+    {
+        let before = records::set_live(&mut self.slots, slot, live);
+        renew_offer(&self.slots, &mut self.dead, slot);
+        before
+    }
+
+    /// Puts a live version back that a write gave.
+    pub fn undo(&mut self, slot: usize, before: Option<Value<A>>)
+        ensures { self.new ≡ changed (with_live before) self.old slot }
+    {
+        self.write_live(slot, before);
+    }
+
+    pub fn erase_stable(&mut self, slot: usize)
+        ensures { self.new ≡ changed (with_stable Empty) self.old slot }
+    {
+        records::set_stable(&mut self.slots, slot, None, 0);
+    }
+
+    /// The stable version goes to the caller, and none is left.
+    pub fn take_stable(&mut self, slot: usize) -> Stable<Option<Value<A>>>
+        ensures value { result ≡ stable_at self.old slot }
+        ensures changed { self.new ≡ changed (with_stable Empty) self.old slot }
+    {
+        records::take_stable(&mut self.slots, slot, self.number)
+    }
+
+    pub fn set_available(&mut self, slot: usize, available: bool)
+        ensures { self.new ≡ changed (with_available available) self.old slot }
+    {
+        let mark = mark_of(self.number, available);
+        records::set_mark(&mut self.slots, slot, mark);
+    }
+
+    /// Every record becomes not available and without a stable version. It takes constant time, but
+    /// for once in 2^64 - 1 calls.
+    pub fn next_number(&mut self)
+        ensures { self.new ≡ map (option_map at_rest) self.old }
+    {
+        if self.number == u64::MAX {
+            clean_all(&mut self.slots, self.used);
+            self.number = 1;
+        } else {
+            self.number += 1;
+        }
+    }
+
+    /// The slot of the least key of the dead records that aren't set aside.
+    pub fn least_candidate(&self) -> Option<usize>
+        ensures { IsLeastCandidate self.now result }
+    {
+        self.dead.least()
+    }
+
+    /// The record is no candidate for reclaim until it is reconsidered.
+    pub fn set_aside(&mut self, slot: usize)
+        ensures { self.new ≡ changed (with_aside true) self.old slot }
+    {
+        records::set_aside(&mut self.slots, slot, true);
+        renew_offer(&self.slots, &mut self.dead, slot);
+    }
+
+    /// The record is a candidate for reclaim whenever it is dead.
+    pub fn reconsider(&mut self, slot: usize)
+        ensures { self.new ≡ changed (with_aside false) self.old slot }
+    {
+        records::set_aside(&mut self.slots, slot, false);
+        renew_offer(&self.slots, &mut self.dead, slot);
+    }
+
+    /// Makes the slot of a dead record vacant. A record that isn't dead stays.
+    pub fn reclaim(&mut self, slot: usize)
+        ensures { self.new ≡ reclaimed self.old slot }
+    {
+        let Some(key) = dead_key(&self.slots, slot) else {
+            return;
+        };
+        remove(&mut self.slots, slot);
+        self.index.swap_remove(&key);
+        renew_offer(&self.slots, &mut self.dead, slot);
+    }
+}
+
+/// A record is available where its mark is the store's number, which is above 0.
+fn mark_of(number: u64, available: bool) -> u64
+    ensures { result ≡ mark_of number available }
+{
+    if available { number } else { 0 }
+}
+
+/// Makes room for one more record, and tells the slot that it will have.
+fn make_room<A: Allocator + Clone>(
+    slots: &mut Slab<Entry<A>, A>,
+    index: &mut Index<A>,
+    dead: &mut DeadKeys<A>,
+) -> Result<usize, NoMemory>
+    ensures slots { slots.new ≡ record slots.old { capacity = slots.new.capacity } }
+    ensures index { index.new.entries ≡ index.old.entries }
+    ensures dead { SameOffers dead.old dead.new }
+    ensures places { length dead.old ≤ length dead.new }
+    ensures room { OnOk result (HasRoomFor slots.new 1) }
+    ensures spare { OnOk result (0 < spare index.new) }
+    ensures slot { IfOk result (λ slot. slot ≡ slots.new.vacant_key) }
+    ensures place { IfOk result (λ slot. slot < length dead.new) }
+    ensures fits { IfOk result (λ slot. slot + 1 < 2 ^ 64) }
+{
+    slots.reserve(1)?;
+    index.reserve(1)?;
+    let slot = slots.vacant_key();
+    dead.make_place(slot)?;
+    Ok(slot)
+}
+
+/// Puts a new record into the vacant slot, for which there is room.
+fn place<A: Allocator + Clone>(
+    slots: &mut Slab<Entry<A>, A>,
+    index: &mut Index<A>,
+    slot: usize,
+    key: Key,
+    mark: u64,
+)
+    requires slot { slot ≡ slots.old.vacant_key }
+    requires room { HasRoomFor slots.old 1 }
+    requires spare { 0 < spare index.old }
+    ensures vacant { get slots.old slot ≡ None }
+    ensures updates { Updates slots.old slots.new slot (Some (made key mark)) }
+    ensures len { slab_len slots.new ≡ slab_len slots.old + 1 }
+    ensures found { Notes (pointwise nat_eq) index.old index.new key (Some slot) }
+{
+    slots.insert_reserved(Entry::new(key, mark));
+    if index.insert(key, slot).is_err() {
+        unreachable!()
+    }
+}
+
+/// One more than the greatest slot used, now that this one is.
+fn raise(used: &mut usize, slot: usize)
+    requires { slot + 1 < 2 ^ 64 }
+    ensures { used.new ≡ max used.old (slot + 1) }
+{
+    *used = cmp::max(*used, slot + 1);
+}
+
+impl<A: Allocator + Clone> Store<A> {
+    /// Makes a record of a key that has none, as `find` tells: dead, without a stable version, and set
+    /// aside until it is reconsidered. A vacant slot is used before a new one.
+    pub fn create(&mut self, key: Key, available: bool) -> Result<usize, CreateError>
+        requires absent { Finds self.old key None }
+        ensures vacant { IfOk result (λ slot. record_at self.old slot ≡ None) }
+        ensures ok { IfOk result (λ slot. self.new ≡ with_record self.old slot (new_record key available)) }
+        ensures err { OnErr result (self.new ≡ self.old) }
+        ensures full { (result ≡ Err TableFull) ↔ (RECORDS ≤ records self.old) }
+    {
+        if self.slots.len() >= RECORDS {
+            return Err(CreateError::TableFull);
+        }
+        let Ok(slot) = make_room(&mut self.slots, &mut self.index, &mut self.dead) else {
+            return Err(CreateError::NoMemory);
+        };
+        let mark = mark_of(self.number, available);
+        place(&mut self.slots, &mut self.index, slot, key, mark);
+        raise(&mut self.used, slot);
+        Ok(slot)
+    }
+
+    /// The stable version becomes a copy of the live one, whatever it was. Memory is taken only for
+    /// a live version that isn't absent.
+    pub fn copy_stable(&mut self, slot: usize) -> Result<(), NoMemory>
+        ensures ok { OnOk result (self.new ≡ changed with_copy self.old slot) }
+        ensures err { OnErr result (self.new ≡ self.old) }
+        ensures memory { OnErr result (IsSome (live_at self.old slot)) }
+    {
+        let copy = copy_of_live(&self.slots, slot)?;
+        records::set_stable(&mut self.slots, slot, copy, self.number);
+        Ok(())
+    }
+}

@@ -1,0 +1,14 @@
+pub mod Calls
+pub mod Status
+pub mod Stepping
+pub mod Finishing
+pub mod Keeping
+pub mod Growth
+pub mod Events
+pub mod Transitions
+pub mod Phases
+pub mod Whole
+pub mod Tied
+pub mod Forward
+pub mod Cuts
+pub mod Promised

@@ -1,0 +1,5 @@
+use Rattle.steps.proofs.Promised.{all_schedules}
+use Rattle.steps.proofs.laws.schedules_law.Goals as goal
+
+pub returns : goal.returns
+returns c = all_schedules

@@ -1,0 +1,4 @@
+//! The engine's core.
+#![tactic(auto)]
+
+pub mod laws;
