@@ -5,3 +5,14 @@ pub mod Cuts
 pub mod Written
 pub mod Finished
 pub mod Growth
+pub mod Writings
+pub mod Manys
+pub mod Fields
+pub mod BodyLaws
+pub mod Refusals
+pub mod Wholes
+pub mod Chains
+pub mod Begins
+pub mod OneReadings
+pub mod Goings
+pub mod Arrivals

@@ -3,3 +3,8 @@ pub mod Logs
 pub mod Histories
 pub mod Cuts
 pub mod Laws
+pub mod LogBytes
+pub mod BodyReading
+pub mod LogTexts
+pub mod LogReadings
+pub mod Streams

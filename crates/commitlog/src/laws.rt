@@ -1,6 +1,7 @@
 //! Laws of histories, each the contract of a function that does nothing.
 
 ghost use Rattle.commitlog.specs.Laws.{FrontsAreHistories, GrowByOne, KeepsCuts, KeepsImages, LastIsGreatest, NumbersRise, SayByOne, WrittenJoins};
+ghost use Rattle.commitlog.specs.LogReadings.{IsReadAgain, OneReading};
 
 /// A longer log keeps the cut of every checkpoint that it had, the table there, the checkpoint
 /// finished before, and the keys written before it.
@@ -43,4 +44,14 @@ pub fn order_law()
 /// finished before a cut is the greatest below it.
 pub fn finished_law()
     ensures { LastIsGreatest }
+{}
+
+/// A text has one reading as a log.
+pub fn reading_law()
+    ensures { OneReading }
+{}
+
+/// What is written is read again.
+pub fn written_log_law()
+    ensures { IsReadAgain }
 {}

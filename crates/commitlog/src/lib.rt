@@ -1,15 +1,29 @@
-//! The commit log in memory, and what its records say as a history.
+//! The commit log in memory, what its records say as a history, and its bytes in two versions.
 //!
-//! The definitions are in `specs/`: histories that are legal, orderly and cyclic (`Histories`), and
-//! the cut and the images of a checkpoint (`Cuts`).
+//! The definitions are in `specs/`: histories that are legal, orderly and cyclic (`Histories`), the cut
+//! and the images of a checkpoint (`Cuts`), the bytes of a log (`LogBytes`), and the one reading of a
+//! text as a log (`LogReadings`).
 #![tactic(auto)]
 
+mod bodies;
+pub mod decoding;
+pub mod encoding;
+pub mod formats;
 pub mod laws;
 pub mod limits;
+#[cfg(test)]
+mod log_bytes_tests;
 pub mod logs;
 pub mod records;
 #[cfg(test)]
+mod stream_tests;
+pub mod streams;
+#[cfg(test)]
 mod tests;
 
+pub use decoding::{Ending, LogError, StoredLog, read_log};
+pub use encoding::{EncodeError, encode, encode_v1};
+pub use formats::{LogHeader, Version};
 pub use logs::{Log, PushError};
 pub use records::{Entry, Record};
+pub use streams::{ReadError, WriteError, encode_to, read_log_from};

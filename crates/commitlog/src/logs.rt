@@ -1,6 +1,6 @@
 //! The log in memory.
 
-ghost use Rattle.std.specs.Prelude.{◌≡◌, ◌≢◌, ◌≤◌, ◌<◌, ◌↔◌, [], ◌∷◌, ◌++◌, Err, IsSome, IsTrue, OnErr, OnOk, codes, length, option_copied, slice_get, Some};
+ghost use Rattle.std.specs.Prelude.{◌≡◌, ◌≢◌, ◌≤◌, ◌<◌, ◌↔◌, [], ◌∷◌, ◌++◌, Err, IsOk, IsSome, IsTrue, OnErr, OnOk, codes, length, option_copied, slice_get, Some};
 ghost use Rattle.commitlog.specs.declared.limits.TheConstants.{RECORDS};
 ghost use Rattle.commitlog.specs.declared.logs.PushError.TheVariants as refused;
 
@@ -98,10 +98,12 @@ impl<A: Allocator> Log<A> {
         self.records.as_slice()
     }
 
-    /// Room for one record more, so that the next push takes no memory.
+    /// Room for one record more, so that the next push takes no memory. It takes none where there is
+    /// room.
     pub fn make_room(&mut self) -> Result<(), NoMemory>
         ensures records { self.new.records ≡ self.old.records }
         ensures room { OnOk result (1 ≤ self.new.room) }
+        ensures memory { 1 ≤ self.old.room → IsOk result }
     {
         self.records.reserve(1)?;
         Ok(())

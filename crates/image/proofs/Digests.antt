@@ -1,5 +1,5 @@
 -- Digests that are compared, and an entry's bytes that are fed in turn.
-use Rattle.std.proofs.Common.{◌≡◌, ℕ, Bool, true, false, List, [], ◌∷◌, ◌++◌, length, Some, append_assoc, refl, sym, ap, ◌∙◌, subst}
+use Rattle.std.proofs.Common.{◌≡◌, Bool, true, false, [], ◌∷◌, ◌++◌, length, Some, append_assoc, refl, sym, ap, ◌∙◌, subst}
 use Rattle.std.specs.Prelude.{not, nat_eq}
 use Rattle.std.specs.Cmp.Lexicographic.{pointwise, bytes_decides}
 use Rattle.byteorder.specs.Endian.{big_bytes}
@@ -19,6 +19,13 @@ alike x y h = (bytes_decides x y).0 (opposite _ h)
 
 pub differ : (x y : Bytes) → not (pointwise nat_eq x y) ≡ true → x ≡ y → ⊥
 differ x y h e = let one : not true ≡ true = subst (λ b. not b ≡ true) ((bytes_decides x y).1 e) h in absurd (cc)
+
+-- bytes that were compared
+pub same_bytes : (x y : Bytes) → pointwise nat_eq x y ≡ true → x ≡ y
+same_bytes x y h = (bytes_decides x y).0 h
+
+pub other_bytes : (x y : Bytes) → pointwise nat_eq x y ≡ false → x ≡ y → ⊥
+other_bytes x y h e = let no : true ≡ false = sym ((bytes_decides x y).1 e) ∙ h in absurd (cc)
 
 -- the pieces of an entry's bytes, one after another
 in_pieces : (chain key v n : Bytes) → ((((((chain ++ (length key ∷ [])) ++ key) ++ (1 ∷ [])) ++ n) ++ v)) ≡ chain ++ ((((length key ∷ []) ++ key) ++ (((1 ∷ []) ++ n) ++ v)))

@@ -1,10 +1,10 @@
 -- Two lists in the order of their keys as one, at a key of both the entry of the second.
 use Rattle.std.proofs.Common.{◌≡◌, ℕ, ◌≤◌, ◌-◌, length, take, drop, append-nil, append_assoc, Bool, true, false, cond, List, [], ◌∷◌, ◌++◌, Option, Some, None, T, refl, sym, ap, ◌∙◌, subst, ◌⊎◌, inl, inr}
 use Rattle.std.specs.Option.{option_or}
-use Rattle.std.specs.Ordering.{nat_cmp, eq_by_cmp, is_eq, is_lt, ordering_reverse}
+use Rattle.std.specs.Ordering.{eq_by_cmp, is_eq, is_lt, ordering_reverse}
 use Rattle.std.specs.declared.cmp.Ordering.{Ordering}
 use Rattle.std.specs.declared.cmp.Ordering.TheVariants.{Less, Equal, Greater}
-use Rattle.std.specs.Cmp.Lexicographic.{slice_cmp, nat_list_cmp_total}
+use Rattle.std.specs.Cmp.Lexicographic.{nat_list_cmp_total}
 use Rattle.std.specs.FinMap.{find, is_sorted, slice_cmp-IsAntisymmetric, nat_cmp-IsAntisymmetric}
 use Rattle.std.specs.FinMap.Entries.{below_all, by_order}
 use Rattle.std.proofs.lemmas.List.{drop_all, length-drop, map-append}
@@ -13,7 +13,7 @@ use Rattle.procedure.specs.Bytes.{Bytes, Cell}
 use Rattle.image.specs.Images.{Entry, Rises}
 use denote.Ref.{Bor}
 use Rattle.image.specs.Joins.{Say, later_of, lent}
-use Rattle.image.proofs.Rising.{by_bytes, both, parts, less_of, is_less, below_through}
+use Rattle.image.proofs.Rising.{by_bytes, both, parts, is_less, below_through}
 
 abbrev pub woven : Entry → List Entry → (List Entry → List Entry) → List Entry → List Entry
 woven x xs rest [] = x ∷ xs

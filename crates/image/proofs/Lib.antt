@@ -5,3 +5,12 @@ pub mod Chains
 pub mod Results
 pub mod Merged
 pub mod Digests
+pub mod Blocks
+pub mod FrontLoops
+pub mod FrontEntries
+pub mod FrontBlocks
+pub mod Readings
+pub mod Walks
+pub mod HeaderBytes
+pub mod Spellings
+pub mod ReadAnswers

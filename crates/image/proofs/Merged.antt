@@ -1,5 +1,5 @@
 -- What a chain says is its merged image.
-use Rattle.std.proofs.Common.{◌≡◌, ℕ, ◌<◌, ◌≤◌, Bool, true, false, List, [], ◌∷◌, length, Option, Some, None, refl, sym, ap, ◌∙◌, subst, arith}
+use Rattle.std.proofs.Common.{◌≡◌, ℕ, ◌<◌, ◌≤◌, List, ◌∷◌, length, Some, None, sym, ap, ◌∙◌, subst}
 use Rattle.std.specs.Prelude.{nat_le}
 use Rattle.std.specs.Option.{option_or}
 use Rattle.std.specs.FinMap as finite
@@ -8,7 +8,7 @@ use Rattle.std.proofs.lemmas.Bool.{le-leb, lt-leb}
 use Rattle.std.proofs.lemmas.List.{length-map}
 use Rattle.image.specs.Images.{Entry, Image, IsLawful, entries_of, full_image}
 use Rattle.image.specs.Joins.{Say, present, said_by}
-use Rattle.image.specs.Merges.{Refusal, unless, chain_refusal, refusal_of, last_of, merged_image, table_of, table_after}
+use Rattle.image.specs.Merges.{unless, chain_refusal, refusal_of, last_of, merged_image, table_of, table_after}
 use Rattle.image.specs.declared.images.Kind.TheVariants.{Full}
 use Rattle.image.specs.declared.merges.MergeError.TheVariants.{TooMany}
 use Rattle.image.specs.declared.limits.TheConstants.{ENTRIES}

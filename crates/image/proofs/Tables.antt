@@ -1,5 +1,5 @@
 -- The entries of a table make a lawful full image, and those of a merged chain are a table's.
-use Rattle.std.proofs.Common.{◌≡◌, ◌≤◌, ℕ, ◌-◌, Bool, true, false, cond, List, [], ◌∷◌, length, map, Option, Some, None, T, IsSome, is_some, unwrap_or, slice_get, refl, sym, ap, ◌∙◌, subst}
+use Rattle.std.proofs.Common.{◌≡◌, ◌≤◌, ℕ, Bool, true, false, cond, List, [], ◌∷◌, map, Option, Some, None, T, IsSome, is_some, refl, sym, ap, ◌∙◌, subst}
 use Rattle.std.specs.Ordering.{is_lt, eq_by_cmp}
 use Rattle.std.specs.Option.{option_or, option_map}
 use Rattle.std.specs.Cmp.Lexicographic.{nat_list_cmp_total}
@@ -11,7 +11,7 @@ use Rattle.std.proofs.lemmas.List.Elements.{All-from_recursion}
 use Rattle.procedure.specs.Bytes.{Bytes, Cell}
 use Rattle.procedure.specs.Table.{Table, Changes, value_at, change_at, changed_or, no_table, with_cell, with_cells, merged}
 use Rattle.image.specs.Images.{Entry, Image, IsLawful, changes_of, entries_of, full_image}
-use Rattle.image.specs.Merges.{table_of, table_after, last_of}
+use Rattle.image.specs.Merges.{table_of, table_after}
 use Rattle.image.specs.Joins.{Say, present, said_by}
 use Rattle.image.specs.declared.limits.TheConstants.{ENTRIES}
 use Rattle.image.proofs.Rising.{by_bytes, both, parts}

@@ -3,5 +3,10 @@ pub mod Views
 pub mod Merges
 pub mod Joins
 pub mod EntryBytes
+pub mod ImageBytes
+pub mod Fronts
+pub mod Refusals
+pub mod Readings
+pub mod Laws
 pub mod Headers
 pub mod Texts

@@ -1,19 +1,30 @@
-//! Images of a checkpoint: what is lawful, a chain of them as one, and an image made of its header
-//! and entries that came in any order.
+//! Images of a checkpoint: what is lawful, their bytes, a chain of them as one, and an image made of
+//! its header and entries that came in any order.
 //!
-//! The definitions are in `specs/`: images (`Images`), the merge of a chain (`Merges`),
-//! and headers with the digest of their entries (`Headers`).
+//! The definitions are in `specs/`: images (`Images`), their bytes in both versions (`ImageBytes`), how
+//! other bytes are refused (`Refusals`), the merge of a chain (`Merges`), and headers with the digest of
+//! their entries (`Headers`).
 #![tactic(auto)]
 
+#[cfg(test)]
+mod byte_tests;
 pub mod entries;
+pub mod errors;
+mod fronts;
 pub mod headers;
 pub mod images;
+pub mod laws;
 pub mod limits;
 pub mod merges;
+pub mod reading;
+pub mod sealing;
 #[cfg(test)]
 mod tests;
 
 pub use entries::Entry;
+pub use errors::{ReadError, SealError};
 pub use headers::{AssembleError, Header, NO_ENTRIES, assemble, link};
 pub use images::{Image, Kind, OpeningError};
 pub use merges::{MergeError, merge};
+pub use reading::read_image;
+pub use sealing::{seal, seal_v1};

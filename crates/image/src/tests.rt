@@ -8,7 +8,7 @@ use std::process::Abort;
 use std::test::Fail;
 
 /// A key of one letter, and the number that it holds; no number where it is gone.
-type Given = (u8, Option<u64>);
+pub(crate) type Given = (u8, Option<u64>);
 
 /// The digest of the chain of `b` with 2 and then `a` with 1, by another program.
 const TWO_DIGEST: [u8; 32] = [
@@ -48,7 +48,7 @@ fn entry(alloc: Global, given: Given) -> Result<Entry<Global>, Fail> {
     })
 }
 
-fn entries(alloc: Global, given: &[Given]) -> Result<Vec<Entry<Global>>, Fail> {
+pub(crate) fn entries(alloc: Global, given: &[Given]) -> Result<Vec<Entry<Global>>, Fail> {
     let mut made = Vec::new(alloc);
     for one in given {
         made.push(entry(alloc, *one)?)?;
@@ -56,12 +56,17 @@ fn entries(alloc: Global, given: &[Given]) -> Result<Vec<Entry<Global>>, Fail> {
     Ok(made)
 }
 
-fn full(alloc: Global, number: u64, place: u64, given: &[Given]) -> Result<Image<Global>, Fail> {
+pub(crate) fn full(
+    alloc: Global,
+    number: u64,
+    place: u64,
+    given: &[Given],
+) -> Result<Image<Global>, Fail> {
     let entries = entries(alloc, given)?;
     Ok(Image::new(Kind::Full, number, number, place, entries).ok_or("not lawful")?)
 }
 
-fn partial(
+pub(crate) fn partial(
     alloc: Global,
     number: u64,
     base: u64,
@@ -73,7 +78,7 @@ fn partial(
 }
 
 /// Whether these are the entries, in their order.
-fn are(entries: &[Entry<Global>], given: &[Given]) -> bool {
+pub(crate) fn are(entries: &[Entry<Global>], given: &[Given]) -> bool {
     entries.len() == given.len()
         && entries.iter().zip(given).all(|(entry, one)| {
             let number = entry.cell.as_ref().and_then(|value| value.as_number());
@@ -84,7 +89,7 @@ fn are(entries: &[Entry<Global>], given: &[Given]) -> bool {
 }
 
 /// Whether the image is full, with this number as its base too, this place and these entries.
-fn is_full(image: &Image<Global>, number: u64, place: u64, given: &[Given]) -> bool {
+pub(crate) fn is_full(image: &Image<Global>, number: u64, place: u64, given: &[Given]) -> bool {
     image.kind() == Kind::Full
         && image.number() == number
         && image.base() == number

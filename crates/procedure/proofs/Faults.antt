@@ -11,7 +11,7 @@ pub neither : (f g : Fault) → then_fault f g ≡ None → (f ≡ None) × (g �
 neither None g e = (refl, e)
 neither (Some x) g e = absurd cc
 
-no_first_fault : {X : Type 0} (f : X → Fault) (xs : List X) (i : ℕ) (x : X) → first_fault f xs ≡ None → Some x ≡ slice_get xs i → f x ≡ None
+pub no_first_fault : {X : Type 0} (f : X → Fault) (xs : List X) (i : ℕ) (x : X) → first_fault f xs ≡ None → Some x ≡ slice_get xs i → f x ≡ None
 no_first_fault f [] i x e at = absurd cc
 no_first_fault f (y ∷ ys) zero x e at =
     let same : x ≡ y = cc in

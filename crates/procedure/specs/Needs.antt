@@ -1,10 +1,12 @@
 -- What an instruction asks for, before it is carried out.
-use Rattle.std.specs.Prelude.{ℕ, Option, Some, None, option_map}
+use Rattle.std.specs.Prelude.{ℕ, Bool, true, false, Option, Some, None, option_map}
 use Rattle.procedure.specs.Bytes.{Bytes, Cell}
 pub use Rattle.procedure.specs.declared.needs.Update.{Update}
 use Rattle.procedure.specs.declared.needs.Update.TheVariants.{Put, Insert, Delete}
 pub use Rattle.procedure.specs.declared.needs.Need.{Need}
 use Rattle.procedure.specs.declared.needs.Need.TheVariants.{Read, Write, Own, Ended}
+use Rattle.procedure.specs.declared.needs.Access.{Access}
+use Rattle.procedure.specs.declared.needs.Access.TheVariants as access
 
 abbrev pub to_put : Bytes → Update Bytes
 to_put v = Put v
@@ -65,6 +67,19 @@ touch_of (Read k) = Reads k
 touch_of (Write k u) = Writes k
 touch_of Own = Nothing
 touch_of (Ended c) = Nothing
+
+-- which key a need touches, and how; or how the call ended
+abbrev pub accessed : Need Bytes → Access
+accessed (Read k) = access.Reads k
+accessed (Write k u) = access.Writes k
+accessed Own = access.Nothing
+accessed (Ended c) = access.Ended c
+
+-- an update touches its key where operands give the key and the value
+abbrev pub write_access : Option Bytes → Bool → Access
+write_access None b = access.Nothing
+write_access (Some k) false = access.Nothing
+write_access (Some k) true = access.Writes k
 
 -- where an instruction that is carried out copies or makes a value: it reads, or touches no key
 abbrev pub CopiesValue : Need Bytes → Type 0

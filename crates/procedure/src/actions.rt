@@ -3,13 +3,13 @@
 ghost use Rattle.std.specs.Prelude.{◌≡◌, ◌+◌, ◌-◌, ◌<◌, ◌^◌, Some, None, IfOk, OnErr, option_copied, slice_set, List};
 ghost use Rattle.procedure.specs.Bytes.{Cell};
 ghost use Rattle.procedure.specs.Procedures.{operand_value, as_key, as_number, same_cell, below_cell, holds, need, effect, adding, subtracting, reading, putting, inserting, deleting};
-ghost use Rattle.procedure.specs.Needs.{HasValue, CopiesValue};
+ghost use Rattle.procedure.specs.Needs.{HasValue, CopiesValue, accessed, write_access};
 ghost use Rattle.procedure.specs.Actions.{effect_of, number_set};
 
 use crate::instructions::{Instr, Operand, Test};
 use crate::keys::Key;
 use crate::memory::NoMemory;
-use crate::needs::{Need, Update};
+use crate::needs::{Access, Need, Update};
 use crate::outcomes::{BAD_KEY, KEY_ABSENT, KEY_PRESENT, NO_VALUE, NOT_A_NUMBER, OUT_OF_RANGE};
 use crate::values::Value;
 use std::alloc::Allocator;
@@ -94,6 +94,41 @@ fn test_holds<A: Allocator>(
         Test::Absent(x) => value_of(x, args, registers).is_none(),
         Test::Equal(x, y) => is_same(value_of(x, args, registers), value_of(y, args, registers)),
         Test::Below(x, y) => is_below(value_of(x, args, registers), value_of(y, args, registers)),
+    }
+}
+
+fn access_to_write(key: Option<Key>, has_value: bool) -> Access
+    ensures { result ≡ write_access key has_value }
+{
+    match (key, has_value) {
+        (Some(key), true) => Access::Writes(key),
+        _ => Access::Nothing,
+    }
+}
+
+/// Which key an instruction touches. It takes no memory.
+#[tactic(auto, unfolding(crate::specs::Procedures::need))]
+pub(crate) fn access_of<A: Allocator>(
+    instruction: &Instr<Value<A>>,
+    args: &[Value<A>],
+    registers: &[Option<Value<A>>],
+) -> Access
+    ensures { result ≡ accessed (need instruction.now args.now registers.now) }
+{
+    match instruction {
+        Instr::Read(_, key) => match key_of(value_of(key, args, registers)) {
+            Some(key) => Access::Reads(key),
+            None => Access::Nothing,
+        },
+        Instr::Put(key, value) | Instr::Insert(key, value) => {
+            let key = key_of(value_of(key, args, registers));
+            access_to_write(key, value_of(value, args, registers).is_some())
+        }
+        Instr::Delete(key) => match key_of(value_of(key, args, registers)) {
+            Some(key) => Access::Writes(key),
+            None => Access::Nothing,
+        },
+        Instr::Add(..) | Instr::Sub(..) | Instr::AbortIf(..) => Access::Nothing,
     }
 }
 

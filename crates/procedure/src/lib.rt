@@ -30,7 +30,7 @@ pub use instructions::{Call, Instr, Operand, Procedure, Test};
 pub use keys::Key;
 pub use machines::Machine;
 pub use memory::NoMemory;
-pub use needs::{Need, Update};
+pub use needs::{Access, Need, Update};
 pub use runs::{Alone, Finished, run_alone, run_whole};
 pub use sequences::Sequence;
 pub use tables::{Changes, KeyMap, Table};

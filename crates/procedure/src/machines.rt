@@ -1,14 +1,14 @@
 //! The machine that executes a call one instruction at a time.
 
 ghost use Rattle.std.specs.Prelude.{◌≡◌, IfOk, OnOk, OnErr, option_copied, replicate, slice_set, None};
-ghost use Rattle.procedure.specs.Needs.{CopiesValue, HasValue};
+ghost use Rattle.procedure.specs.Needs.{CopiesValue, HasValue, accessed};
 ghost use Rattle.procedure.specs.Runs.{advanced, at_start, next_need};
 
-use crate::actions::{Action, action_of, need_of};
+use crate::actions::{Action, access_of, action_of, need_of};
 use crate::instructions::{Instr, Procedure};
 use crate::limits::REGISTERS;
 use crate::memory::NoMemory;
-use crate::needs::Need;
+use crate::needs::{Access, Need};
 use crate::outcomes::COMMITTED;
 use crate::sequences::Sequence;
 use crate::values::Value;
@@ -143,6 +143,20 @@ impl<A: Allocator + Clone> Machine<A> {
 }
 
 impl<A: Allocator> Machine<A> {
+    /// Which key the next instruction touches, or how the call ended.
+    pub fn access(&self) -> Access
+        ensures { result ≡ accessed (next_need self.now.args self.now.progress) }
+    {
+        match self.code.get(self.place) {
+            Some(instruction) => {
+                let args = self.args.as_slice();
+                let registers = self.registers.as_slice();
+                access_of(instruction, args, registers)
+            }
+            None => Access::Ended(self.outcome),
+        }
+    }
+
     /// The replies so far, one of each read.
     pub fn replies(&self) -> &[Option<Value<A>>]
         ensures { result.now ≡ self.now.progress.replies }

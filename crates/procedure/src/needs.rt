@@ -31,6 +31,19 @@ pub enum Need<V> {
     Ended(u8),
 }
 
+/// Which key the next instruction touches, and how.
+#[derive(Clone, Copy, Debug)]
+pub enum Access {
+    /// It sees what the key holds.
+    Reads(Key),
+    /// It sees what the key holds, and may update it.
+    Writes(Key),
+    /// It touches no key.
+    Nothing,
+    /// The call has ended, with this outcome.
+    Ended(u8),
+}
+
 impl<A: Allocator> Update<Value<A>> {
     /// What the key that holds `found` becomes: a value or absent; None where it stays.
     pub fn becomes(self, found: Option<&Value<A>>) -> Option<Option<Value<A>>>

@@ -134,18 +134,27 @@ pub(crate) fn numbers(
     Ok(found)
 }
 
+/// The catalog of `get` alone.
+fn get_alone(alloc: Global) -> Result<Catalog<Global>, Fail> {
+    let get = procedure(1, vec![in alloc; Instr::Read(0, arg(0))]?);
+    Ok(Catalog::new(Sequence::new(vec![in alloc; get]?))?)
+}
+
 #[test]
 fn catalog_bytes(rt: HostRuntime) -> Result<(), Fail> {
-    let alloc = rt.alloc();
-    let get = vec![in alloc; procedure(1, vec![in alloc; Instr::Read(0, arg(0))]?)]?;
-    let bytes = Catalog::new(Sequence::new(get))?.to_bytes()?;
+    let bytes = get_alone(rt.alloc())?.to_bytes()?;
     assert_eq!(rt;
         bytes.as_slice(),
         b"CALCCAT1\x01\x01\x01\x01\x00\x00\x00".as_slice()
     );
-    let all = examples(alloc)?.to_bytes()?;
+    Ok(())
+}
+
+#[test]
+fn bytes_of_deposit(rt: HostRuntime) -> Result<(), Fail> {
+    let all = examples(rt.alloc())?.to_bytes()?;
     let third = all.as_slice().get(22..44).ok_or("short")?;
-    // Of DEPOSIT: read r0 $0, abort 16 absent r0, add r1 r0 $1, put $0 r1.
+    // read r0 $0, abort 16 absent r0, add r1 r0 $1, put $0 r1
     let deposit =
         b"\x02\x04\x01\x00\x00\x00\x07\x01\x01\x00\x10\x05\x01\x01\x00\x00\x01\x02\x00\x00\x01\x01";
     assert_eq!(rt; third, deposit.as_slice());
@@ -154,9 +163,7 @@ fn catalog_bytes(rt: HostRuntime) -> Result<(), Fail> {
 
 #[test]
 fn digest_of_a_catalog(rt: HostRuntime) -> Result<(), Fail> {
-    let alloc = rt.alloc();
-    let get = vec![in alloc; procedure(1, vec![in alloc; Instr::Read(0, arg(0))]?)]?;
-    let digest = Catalog::new(Sequence::new(get))?.digest()?;
+    let digest = get_alone(rt.alloc())?.digest()?;
     assert_eq!(rt; digest.as_slice(), GET_DIGEST.as_slice());
     Ok(())
 }
@@ -222,39 +229,74 @@ fn refused_catalogs(rt: HostRuntime) -> Result<(), Fail> {
     Ok(())
 }
 
+/// Lengths in bytes, and whether a key may have so many.
+const KEY_LENGTHS: [(usize, bool); 4] = [(0, false), (1, true), (32, true), (33, false)];
+
+/// Lengths in bytes, and whether a value may have so many.
+const VALUE_LENGTHS: [(usize, bool); 3] = [
+    (0, true),
+    (VALUE_BYTES, true),
+    (VALUE_BYTES + 1, false),
+];
+
+/// The bytes of values, and the numbers that they are.
+const NUMBERS: [(&[u8], Option<u64>); 2] = [
+    (b"12345678", Some(0x3132_3334_3536_3738)),
+    (b"1234567", None),
+];
+
+fn key(bytes: &[u8]) -> Result<Key, Fail> {
+    Ok(Key::new(bytes).ok_or("no key")?)
+}
+
+fn is_key(alloc: Global, len: usize) -> Result<bool, Fail> {
+    let bytes = long(alloc, len)?;
+    Ok(Key::new(bytes.as_slice()).is_some())
+}
+
+fn is_value(alloc: Global, len: usize) -> Result<bool, Fail> {
+    Ok(Value::new(long(alloc, len)?).is_some())
+}
+
 #[test]
 fn limits_of_keys_and_values(rt: HostRuntime) -> Result<(), Fail> {
-    let alloc = rt.alloc();
-    for (len, is_key) in [(0usize, false), (1, true), (32, true), (33, false)] {
-        let bytes = long(alloc, len)?;
-        assert_eq!(rt; Key::new(bytes.as_slice()).is_some(), is_key, "{len} bytes");
+    for (len, allowed) in KEY_LENGTHS {
+        let is_key = is_key(rt.alloc(), len)?;
+        assert_eq!(rt; is_key, allowed, "{len} bytes");
     }
-    let key = Key::new(b"ab").ok_or("no key")?;
-    let longer = Key::new(b"ab\0").ok_or("no key")?;
-    assert!(rt; key < longer && key != longer && key == key);
-    for (len, is_value) in [
-        (0usize, true),
-        (VALUE_BYTES, true),
-        (VALUE_BYTES + 1, false),
-    ] {
-        assert_eq!(rt;
-            Value::new(long(alloc, len)?).is_some(),
-            is_value,
-            "{len} bytes"
-        );
+    for (len, allowed) in VALUE_LENGTHS {
+        let is_value = is_value(rt.alloc(), len)?;
+        assert_eq!(rt; is_value, allowed, "{len} bytes");
     }
-    assert_eq!(rt;
-        value(alloc, b"12345678")?.as_number(),
-        Some(0x3132_3334_3536_3738)
-    );
-    assert_eq!(rt; value(alloc, b"1234567")?.as_number(), None);
-    assert_eq!(rt;
-        Value::of_number(alloc, 258)?.into_bytes().as_slice(),
-        b"\0\0\0\0\0\0\x01\x02".as_slice()
-    );
-    assert!(rt; Value::empty(alloc).as_bytes().is_empty());
-    assert_eq!(rt; Sequence::<u8, Global>::empty(alloc).len(), 0);
     Ok(())
+}
+
+#[test]
+fn order_of_keys(rt: HostRuntime) -> Result<(), Fail> {
+    let shorter = key(b"ab")?;
+    let longer = key(b"ab\0")?;
+    assert!(rt; shorter < longer && shorter != longer && shorter == shorter);
+    Ok(())
+}
+
+fn number_in(alloc: Global, bytes: &[u8]) -> Result<Option<u64>, Fail> {
+    Ok(value(alloc, bytes)?.as_number())
+}
+
+#[test]
+fn numbers_of_values(rt: HostRuntime) -> Result<(), Fail> {
+    for (bytes, number) in NUMBERS {
+        assert_eq!(rt; number_in(rt.alloc(), bytes)?, number);
+    }
+    let bytes = Value::of_number(rt.alloc(), 258)?.into_bytes();
+    assert_eq!(rt; bytes.as_slice(), b"\0\0\0\0\0\0\x01\x02".as_slice());
+    Ok(())
+}
+
+#[test]
+fn empty_ones(rt: HostRuntime) {
+    assert!(rt; Value::empty(rt.alloc()).as_bytes().is_empty());
+    assert!(rt; Sequence::<u8, Global>::empty(rt.alloc()).len() == 0);
 }
 
 fn reads(machine: &Machine<Global>, key: &[u8]) -> Result<bool, Fail> {
@@ -306,44 +348,92 @@ fn machine_by_steps(rt: HostRuntime) -> Result<(), Fail> {
 }
 
 #[test]
-fn changes_and_tables(rt: HostRuntime) -> Result<(), Fail> {
-    let alloc = rt.alloc();
-    let catalog = examples(alloc)?;
+fn procedures_of_a_catalog(rt: HostRuntime) -> Result<(), Fail> {
+    let catalog = examples(rt.alloc())?;
     assert_eq!(rt; catalog.len(), 7);
     assert!(rt; !catalog.is_empty() && catalog.procedure(7).is_none());
-    let before = table(alloc, &[(b'b', 2), (b'a', 5)])?;
-    let args = arguments(alloc, &[Given::Text(b"b")])?;
-    let delete = catalog.procedure(DELETE).ok_or("no procedure")?;
-    let done = run_alone(alloc, delete, args, &before)?;
-    assert_eq!(rt; (done.changes.len(), before.len()), (1, 2));
-    let mut after = before.merged(alloc, done.changes)?;
-    let key = Key::new(b"a").ok_or("no key")?;
-    assert_eq!(rt;
-        numbers(alloc, &after)?.as_slice(),
-        [(b'a', Some(5))].as_slice()
-    );
-    assert!(rt; after.insert(key, value(alloc, b"")?)?.is_some());
-    assert!(rt; after.get(&key).is_some() && after.remove(&key).is_some() && after.is_empty());
-    assert!(rt; after.into_pairs(alloc)?.is_empty());
     Ok(())
 }
 
-/// The example of the README.
+fn two_keys(alloc: Global) -> Result<Table<Global>, Fail> {
+    table(alloc, &[(b'b', 2), (b'a', 5)])
+}
+
+/// What `delete` of the key `b` changes, run on a table that it only reads.
+fn deletion(alloc: Global, table: &Table<Global>) -> Result<Changes<Global>, Fail> {
+    let catalog = examples(alloc)?;
+    let delete = catalog.procedure(DELETE).ok_or("no procedure")?;
+    let args = arguments(alloc, &[Text(b"b")])?;
+    Ok(run_alone(alloc, delete, args, table)?.changes)
+}
+
+fn without_second(alloc: Global) -> Result<Table<Global>, Fail> {
+    let before = two_keys(alloc)?;
+    let changes = deletion(alloc, &before)?;
+    Ok(before.merged(alloc, changes)?)
+}
+
 #[test]
-fn embedding(rt: HostRuntime) -> Result<(), Fail> {
-    let alloc = rt.alloc();
+fn changes_and_tables(rt: HostRuntime) -> Result<(), Fail> {
+    let before = two_keys(rt.alloc())?;
+    let changes = deletion(rt.alloc(), &before)?;
+    assert_eq!(rt; (changes.len(), before.len()), (1, 2));
+    let after = without_second(rt.alloc())?;
+    let left = numbers(rt.alloc(), &after)?;
+    assert_eq!(rt; left.as_slice(), [(b'a', Some(5))].as_slice());
+    Ok(())
+}
+
+/// The key `a` is written over, found and removed.
+fn emptied(alloc: Global) -> Result<Option<Table<Global>>, Fail> {
+    let mut table = without_second(alloc)?;
+    let key = key(b"a")?;
+    let replaces = table.insert(key, value(alloc, b"")?)?.is_some();
+    let found = table.get(&key).is_some();
+    let removes = table.remove(&key).is_some();
+    Ok(if replaces && found && removes {
+        Some(table)
+    } else {
+        None
+    })
+}
+
+#[test]
+fn emptied_table(rt: HostRuntime) -> Result<(), Fail> {
+    let table = emptied(rt.alloc())?.ok_or("the key is not there")?;
+    assert!(rt; table.is_empty());
+    let pairs = table.into_pairs(rt.alloc())?;
+    assert!(rt; pairs.is_empty());
+    Ok(())
+}
+
+fn inserting(alloc: Global) -> Result<Catalog<Global>, Fail> {
     // new(key, value): insert $0 $1
     let code = vec![in alloc; Instr::Insert(Operand::Arg(0), Operand::Arg(1))]?;
     let new = Procedure {
         arity: 2,
         code: Sequence::new(code),
     };
-    let catalog = Catalog::new(Sequence::new(vec![in alloc; new]?))?;
+    Ok(Catalog::new(Sequence::new(vec![in alloc; new]?))?)
+}
 
+fn key_and_number(alloc: Global) -> Result<Sequence<Literal, Global>, Fail> {
     let key = Value::new(vec![in alloc; b'a']?).ok_or("too long")?;
     let args = vec![in alloc; key, Value::of_number(alloc, 5)?]?;
+    Ok(Sequence::new(args))
+}
+
+fn inserted(alloc: Global) -> Result<Finished<Global>, Fail> {
+    let catalog = inserting(alloc)?;
     let procedure = catalog.procedure(0).ok_or("no procedure")?;
-    let done = run_whole(alloc, procedure, Sequence::new(args), Table::new(alloc))?;
+    let args = key_and_number(alloc)?;
+    Ok(run_whole(alloc, procedure, args, Table::new(alloc))?)
+}
+
+/// The example of the README.
+#[test]
+fn embedding(rt: HostRuntime) -> Result<(), Fail> {
+    let done = inserted(rt.alloc())?;
     assert_eq!(rt;
         (done.outcome, done.table.len(), done.written.len()),
         (0, 1, 1)

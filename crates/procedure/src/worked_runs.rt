@@ -20,30 +20,51 @@ struct Row<'a> {
     after: &'a [(u8, u64)],
 }
 
+fn finished(
+    alloc: Global,
+    catalog: &Catalog<Global>,
+    row: &Row<'_>,
+) -> Result<Finished<Global>, Fail> {
+    let procedure = catalog.procedure(row.procedure).ok_or("no procedure")?;
+    let args = arguments(alloc, row.args)?;
+    let before = table(alloc, row.before)?;
+    Ok(run_whole(alloc, procedure, args, before)?)
+}
+
+fn numbers_of_replies(
+    alloc: Global,
+    replies: &[Option<Value<Global>>],
+) -> Result<Vec<Option<u64>>, Fail> {
+    let mut found = Vec::new(alloc);
+    for reply in replies {
+        found.push(match reply {
+            Some(value) => value.as_number(),
+            None => None,
+        })?;
+    }
+    Ok(found)
+}
+
+fn expected(alloc: Global, pairs: &[(u8, u64)]) -> Result<Vec<(u8, Option<u64>)>, Fail> {
+    let mut wanted = Vec::new(alloc);
+    for (key, number) in pairs {
+        wanted.push((*key, Some(*number)))?;
+    }
+    Ok(wanted)
+}
+
 fn run_row<R: Abort + AllocGlobal>(
     rt: &R,
     catalog: &Catalog<Global>,
     row: &Row<'_>,
 ) -> Result<(), Fail> {
-    let alloc = rt.alloc();
-    let procedure = catalog.procedure(row.procedure).ok_or("no procedure")?;
-    let args = arguments(alloc, row.args)?;
-    let before = table(alloc, row.before)?;
-    let done = run_whole(alloc, procedure, args, before)?;
+    let done = finished(rt.alloc(), catalog, row)?;
     assert_eq!(rt; done.outcome, row.outcome);
-    let mut replies = Vec::new(alloc);
-    for reply in done.replies.as_slice() {
-        replies.push(match reply {
-            Some(value) => value.as_number(),
-            None => None,
-        })?;
-    }
+    let replies = numbers_of_replies(rt.alloc(), done.replies.as_slice())?;
     assert_eq!(rt; replies.as_slice(), row.replies);
-    let mut after = Vec::new(alloc);
-    for (key, number) in row.after {
-        after.push((*key, Some(*number)))?;
-    }
-    assert_eq!(rt; numbers(alloc, &done.table)?.as_slice(), after.as_slice());
+    let found = numbers(rt.alloc(), &done.table)?;
+    let wanted = expected(rt.alloc(), row.after)?;
+    assert_eq!(rt; found.as_slice(), wanted.as_slice());
     Ok(())
 }
 

@@ -4,3 +4,4 @@ pub mod Fields
 pub mod Seen
 pub mod Making
 pub mod ChangedKeys
+pub mod Versions

@@ -13,7 +13,7 @@ use Rattle.record_store.specs.Stores.{Record, Slots, record_at, with_record, new
 use Rattle.record_store.specs.Entries.{seen, offer_of, key_if_dead, made}
 use Rattle.record_store.specs.Fields.{slots_of, entry_key, IsMarked, IsStore, mark_of}
 use Rattle.record_store.specs.declared.records.Entry.{Entry}
-use Rattle.record_store.specs.declared.stores.TheConstants.{RECORDS}
+use Rattle.record_store.specs.declared.limits.TheConstants.{RECORDS}
 use Rattle.record_store.specs.declared.stores.Store.TheInside.{Inside}
 use Rattle.record_store.proofs.Fields.{length-view, view_at, view_is, offers_renewed, edited_here}
 use Rattle.record_store.proofs.Seen.{not_same, same_self}
@@ -24,13 +24,13 @@ length-with [] (suc n) r = omega (arith, length-with [] n r)
 length-with (x ∷ xs) zero r = omega arith
 length-with (x ∷ xs) (suc n) r = omega (arith, length-with xs n r)
 
-at_with_here : (xs : Slots) (n : ℕ) (r : Record) → record_at (with_record xs n r) n ≡ Some r
+pub at_with_here : (xs : Slots) (n : ℕ) (r : Record) → record_at (with_record xs n r) n ≡ Some r
 at_with_here [] zero r = refl
 at_with_here [] (suc n) r = at_with_here [] n r
 at_with_here (x ∷ xs) zero r = refl
 at_with_here (x ∷ xs) (suc n) r = at_with_here xs n r
 
-at_with_other : (xs : Slots) (n : ℕ) (r : Record) (i : ℕ) → i ≢ n → record_at (with_record xs n r) i ≡ record_at xs i
+pub at_with_other : (xs : Slots) (n : ℕ) (r : Record) (i : ℕ) → i ≢ n → record_at (with_record xs n r) i ≡ record_at xs i
 at_with_other [] zero r zero differs = absurd (differs refl)
 at_with_other [] zero r (suc i) differs = refl
 at_with_other [] (suc n) r zero differs = refl

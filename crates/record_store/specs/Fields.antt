@@ -9,7 +9,7 @@ use Rattle.record_store.specs.DeadKeys.{offer_at}
 use Rattle.record_store.specs.Stores.{Slots}
 use Rattle.record_store.specs.Entries.{seen, offer_of}
 use Rattle.record_store.specs.declared.records.Entry.{Entry}
-use Rattle.record_store.specs.declared.stores.TheConstants.{RECORDS}
+use Rattle.record_store.specs.declared.limits.TheConstants.{RECORDS}
 use Rattle.record_store.specs.declared.stores.Store.TheInside.{Inside}
 
 -- the mark of a record under the store's number

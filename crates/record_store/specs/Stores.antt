@@ -1,10 +1,12 @@
 -- A store as contracts see it: slots, each of them vacant or with a record, each key in one of them.
-use Rattle.std.specs.Prelude.{◌≡◌, ◌↔◌, ℕ, Bool, true, false, not, ◌&&◌, if◌then◌else◌, List, [], ◌∷◌, zero, suc, Option, Some, None, is_some, is_none, count_by, slice_index_or, slice_set}
+use Rattle.std.specs.Prelude.{◌≡◌, ◌↔◌, ℕ, Bool, true, false, not, ◌&&◌, if◌then◌else◌, List, [], ◌∷◌, zero, suc, Option, Some, None, is_some, is_none, codes, count_by, slice_index_or, slice_set}
 use Rattle.std.specs.Option.{option_map, option_and_then}
 use Rattle.procedure.specs.Bytes.{Bytes, Cell}
 use Rattle.record_store.specs.DeadKeys.{IsLeast}
 use Rattle.record_store.specs.declared.records.Stable.{Stable}
 use Rattle.record_store.specs.declared.records.Stable.TheVariants.{Empty, Was}
+use Rattle.record_store.specs.declared.stores.CreateError.{CreateError}
+use Rattle.record_store.specs.declared.stores.CreateError.TheVariants.{TableFull, NoMemory}
 
 -- a key with its live and its stable version; is it available? is it set aside from reclaim?
 pub record Record : Type 0 where
@@ -101,3 +103,8 @@ pub record Finds (slots : Slots) (key : Bytes) (found : Option ℕ) : Type 0 whe
 abbrev pub IsLeastCandidate : Slots → Option ℕ → Type 0
 IsLeastCandidate slots None = (slot : ℕ) → candidate_at slots slot ≡ None
 IsLeastCandidate slots (Some slot) = IsLeast (candidate_at slots) slot
+
+-- what is printed of a refusal
+abbrev pub create_error_text : CreateError → Bytes
+create_error_text TableFull = codes "table full"
+create_error_text NoMemory = codes "no memory"

@@ -13,6 +13,7 @@ ghost use Rattle.record_store.specs.declared.records.Stable.TheVariants.{Empty};
 ghost use Rattle.record_store.specs.declared.stores.CreateError.TheVariants.{TableFull};
 
 use crate::dead_keys::DeadKeys;
+use crate::limits::RECORDS;
 use crate::records;
 use crate::records::{
     Entry, Record, Stable, clean_all, copy_of_live, dead_key, lent, remove, renew_offer,
@@ -21,12 +22,10 @@ use indexmap::IndexMap;
 use procedure::{Key, NoMemory, Value};
 use slab::Slab;
 use std::alloc::Allocator;
-use std::cmp;
+use std::error::Error;
 use std::hash::{BuildHasherDefault, FoldHasher};
 use std::marker::Model;
-
-/// Records of a store, dead ones counted.
-pub const RECORDS: usize = 100_000;
+use std::{cmp, fmt};
 
 type Index<A> = IndexMap<Key, usize, BuildHasherDefault<FoldHasher>, A>;
 
@@ -36,6 +35,31 @@ pub enum CreateError {
     /// There are 100,000 records.
     TableFull,
     NoMemory,
+}
+
+impl fmt::Display for CreateError {
+    ghost use Rattle.record_store.specs.Stores.{create_error_text};
+
+    ghost output = { λ e. Some (create_error_text e) };
+
+    fn fmt<W: fmt::Write>(&self, f: &mut fmt::Formatter<W>) -> fmt::Result {
+        f.write_str(match self {
+            CreateError::TableFull => "table full",
+            CreateError::NoMemory => "no memory",
+        })
+    }
+}
+
+impl Error for CreateError {}
+
+impl From<NoMemory> for CreateError {
+    ghost use Rattle.record_store.specs.declared.stores.CreateError.TheVariants.{NoMemory};
+
+    ghost from_gives = { λ _ refusal. refusal ≡ NoMemory };
+
+    fn from(_refused: NoMemory) -> Self {
+        CreateError::NoMemory
+    }
 }
 
 /// Records in slots, each found by its key, seen by contracts as the list of the slots: vacant, or
@@ -276,9 +300,7 @@ impl<A: Allocator + Clone> Store<A> {
         if self.slots.len() >= RECORDS {
             return Err(CreateError::TableFull);
         }
-        let Ok(slot) = make_room(&mut self.slots, &mut self.index, &mut self.dead) else {
-            return Err(CreateError::NoMemory);
-        };
+        let slot = make_room(&mut self.slots, &mut self.index, &mut self.dead)?;
         let mark = mark_of(self.number, available);
         place(&mut self.slots, &mut self.index, slot, key, mark);
         raise(&mut self.used, slot);

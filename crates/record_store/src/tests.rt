@@ -1,8 +1,8 @@
 //! Tests of what no clause says: that each call succeeds, the limit of records, which slot is used
 //! again, and how long many reclaims take.
 use super::*;
-use crate::stores::RECORDS;
-use procedure::{Key, Value};
+use crate::limits::RECORDS;
+use procedure::{Key, NoMemory, Value};
 use std::alloc::Global;
 use std::test::Fail;
 
@@ -214,5 +214,15 @@ fn many_reclaims(rt: HostRuntime) -> Result<(), Fail> {
         store.reclaim(slot);
     }
     assert!(rt; store.is_empty() && store.slots() == RECORDS);
+    Ok(())
+}
+
+#[test]
+fn texts(rt: HostRuntime) -> Result<(), Fail> {
+    let alloc = rt.alloc();
+    let full = CreateError::TableFull;
+    let starved = CreateError::from(NoMemory);
+    let refusals = format!(in alloc; "{full}, {starved}")?;
+    assert_eq!(rt; refusals.as_str(), "table full, no memory");
     Ok(())
 }

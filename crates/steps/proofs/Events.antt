@@ -10,7 +10,7 @@ use Rattle.procedure.specs.Needs.{Touch, Nothing, Reads, Writes}
 use Rattle.procedure.specs.Procedures.{Procedure}
 use Rattle.procedure.specs.Runs.{front, next_touch, next_becomes, has_ended}
 use Rattle.procedure.specs.Table.{Table, value_at, change_at, no_changes, merged}
-use Rattle.steps.proofs.Calls.{yes_no, none_some, put_some, put_none, put_other, same_or_other}
+use Rattle.steps.proofs.OpenCalls.{yes_no, none_some, put_some, put_none, put_other, same_or_other}
 use Rattle.steps.proofs.Finishing.{after_commit, after_abort, committed_commit, committed_abort, answer_lawful, finish_others, still_apart, commit_machines, commit_lives, undo_machines, undo_lives}
 use Rattle.steps.proofs.Growth.{sets_call, images_grow}
 use Rattle.steps.proofs.Keeping.{begin_status, step_statuses, commit_statuses, undo_statuses}

@@ -13,7 +13,7 @@ use Rattle.procedure.specs.Bytes.{Bytes, Cell}
 use Rattle.procedure.specs.Procedures.{Procedure}
 use Rattle.procedure.specs.Runs.{Front, whole, committed, has_ended, touched}
 use Rattle.procedure.specs.Table.{Table, value_at, change_at, changed_or, no_changes, merged}
-use Rattle.steps.proofs.Calls.{same_Some, yes_no, put_none, put_other, other, same_or_other}
+use Rattle.steps.proofs.OpenCalls.{same_Some, yes_no, put_none, put_other, other, same_or_other}
 use Rattle.steps.proofs.Stepping.{written}
 use Rattle.steps.specs.Backwards.{after, last_number, last_finished}
 use Rattle.steps.specs.Good.{Lawful, IsAlone, Machines, MayFinish, Finishing, IsApart, Apart, Unchanged, Lives, undo_of}

@@ -10,7 +10,7 @@ use Rattle.procedure.specs.Needs.{Touch, Nothing, Reads, Writes}
 use Rattle.procedure.specs.Procedures.{Procedure}
 use Rattle.procedure.specs.Runs.{next_touch, next_becomes, changes_after}
 use Rattle.procedure.specs.Table.{Table, Changes, value_at, change_at, changed_or, merged}
-use Rattle.steps.proofs.Calls.{none_some, same_Some, yes_no, put_some, put_none, put_self, put_other, same_or_other}
+use Rattle.steps.proofs.OpenCalls.{none_some, same_Some, yes_no, put_some, put_none, put_self, put_other, same_or_other}
 use Rattle.steps.proofs.Finishing.{not_mine}
 use Rattle.steps.proofs.Status.{status_alone, write_status, commit_status, undo_status}
 use Rattle.steps.proofs.Stepping.{unwritten}

@@ -1,4 +1,4 @@
-pub mod Calls
+pub mod OpenCalls
 pub mod Status
 pub mod Stepping
 pub mod Finishing
@@ -12,3 +12,11 @@ pub mod Tied
 pub mod Forward
 pub mod Cuts
 pub mod Promised
+pub mod Edited
+pub mod Standing
+pub mod Refused
+pub mod Begun
+pub mod Closed
+pub mod Ready
+pub mod Answered
+pub mod Opened

@@ -13,7 +13,7 @@ use Rattle.procedure.proofs.Base.{change_at-none, change_at-with, keys, same_ref
 use Rattle.procedure.specs.Bytes.{Bytes, Cell, same}
 use Rattle.procedure.specs.Runs.{no_keys, with_key}
 use Rattle.procedure.specs.Table.{value_at, change_at}
-use Rattle.steps.proofs.Calls.{yes_no, none_some, same_Some}
+use Rattle.steps.proofs.OpenCalls.{yes_no, none_some, same_Some}
 use Rattle.steps.proofs.Growth.{finished_below, images_grow, resolved_there, has_cut, before-resolve, before-own, sets_prepare, sets_resolve, sets_capture, sets_complete, sets_rest, sets_abandon, pending}
 use Rattle.steps.proofs.Status.{resolve_not}
 use Rattle.steps.proofs.Stepping.{unwritten}

@@ -11,7 +11,7 @@ use Rattle.procedure.specs.Needs.{Touch, Nothing, Reads, Writes}
 use Rattle.procedure.specs.Procedures.{Procedure}
 use Rattle.procedure.specs.Runs.{Front, front, fed, next_touch, next_becomes, seen_at, reads_after, writes_after, changes_after}
 use Rattle.procedure.specs.Table.{Table, Changes, value_at, change_at, changed_or}
-use Rattle.steps.proofs.Calls.{none_some, same_Some, yes_no, put_some, put_self, put_other, other, same_or_other}
+use Rattle.steps.proofs.OpenCalls.{none_some, same_Some, yes_no, put_some, put_self, put_other, other, same_or_other}
 use Rattle.steps.specs.Good.{IsAlone, Machines, IsApart, Apart, Unchanged, Lives, undo_of}
 use Rattle.steps.specs.World.{Open, Calls, Version, Versions, live_of, put, found, NoConflict, stepped, wrote_key, wrote, noted, note}
 

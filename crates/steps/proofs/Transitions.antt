@@ -4,7 +4,7 @@ use Rattle.phase.specs.declared.phases.Phase.{Phase}
 use Rattle.phase.specs.declared.phases.Phase.TheVariants.{Rest, Prepare, Resolve, Capture, Complete}
 use Rattle.procedure.specs.Bytes.{Bytes, Cell}
 use Rattle.procedure.specs.Runs.{no_keys}
-use Rattle.steps.proofs.Calls.{none_some, same_Some}
+use Rattle.steps.proofs.OpenCalls.{none_some, same_Some}
 use Rattle.steps.proofs.Status.{rest_not, complete_not, no}
 use Rattle.steps.specs.Good.{starts, status, at_rest, at_prepare, at_resolve, at_capture, passed, at_complete}
 use Rattle.steps.specs.World.{Open, Calls, Version, Versions, to_visit, captured_at, cleaned, restarted}

@@ -1,6 +1,11 @@
 pub mod Backwards
 pub mod World
+pub mod Edits
 pub mod Good
 pub mod Headline
 pub mod Ties
 pub mod Promises
+pub mod CoreViews
+pub mod Refusals
+pub mod Openings
+pub mod CoreFields

@@ -1,4 +1,22 @@
-//! The engine's core.
+//! The engine's core: it runs the calls of sessions under strict two-phase locking, and keeps the log
+//! of those that were answered.
+//!
+//! The definitions are in `specs/`: what contracts see of a core (`CoreViews`), when its calls are
+//! refused (`Refusals`), the machine of which each of its states is one (`World`), and what is
+//! promised of every schedule of that machine (`Promises`).
 #![tactic(auto)]
 
+mod begin;
+mod calls;
+pub mod cores;
+mod edits;
+pub mod errors;
+pub mod finish;
+mod give_up;
 pub mod laws;
+mod notes;
+mod open;
+
+pub use cores::Core;
+pub use errors::{BeginError, FinishError, NotActive, OpenError};
+pub use finish::Answer;

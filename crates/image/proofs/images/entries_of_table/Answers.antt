@@ -1,5 +1,4 @@
-use Rattle.std.proofs.Common.{List, Some, map, ap, ◌∙◌}
-use Rattle.procedure.specs.Bytes.{Bytes}
+use Rattle.std.proofs.Common.{ap, ◌∙◌}
 use Rattle.image.proofs.Tables.{shown}
 use Rattle.image.proofs.images.entries_of_table.Goals as goal
 

@@ -1,5 +1,5 @@
-use Rattle.std.proofs.Common.{◌≤◌, List, sym, subst, ap, ◌∙◌}
-use Rattle.image.specs.Images.{Entry, IsLawful, entries_of}
+use Rattle.std.proofs.Common.{◌≤◌, List, sym, subst}
+use Rattle.image.specs.Images.{Entry, IsLawful}
 use Rattle.image.specs.declared.images.Kind.TheVariants.{Full}
 use Rattle.image.specs.declared.limits.TheConstants.{ENTRIES}
 use Rattle.image.proofs.Tables.{lawful_full}

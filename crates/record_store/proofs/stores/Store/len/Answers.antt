@@ -1,6 +1,6 @@
 use Rattle.std.proofs.Common.{sym, ap, ◌∙◌, ◌≤◌, subst, ℕ}
 use Rattle.record_store.specs.Stores.{records}
-use Rattle.record_store.specs.declared.stores.TheConstants.{RECORDS}
+use Rattle.record_store.specs.declared.limits.TheConstants.{RECORDS}
 use Rattle.record_store.proofs.Fields.{records_are}
 use Rattle.record_store.proofs.stores.Store.len.Goals as goal
 

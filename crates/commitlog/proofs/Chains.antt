@@ -1,0 +1,45 @@
+-- Records one after another.
+use Rattle.std.proofs.Common.{◌≡◌, ◌<◌, List, [], ◌∷◌, ◌++◌, length, refl, sym, ap, ◌∙◌, append_assoc, arith}
+use Rattle.std.specs.List.{AllByRecursion}
+use Rattle.std.proofs.lemmas.List.{length-append, append-nil}
+use Rattle.procedure.specs.Bytes.{Bytes}
+use Rattle.commitlog.specs.Records.{Record}
+use Rattle.commitlog.specs.declared.formats.Version.{Version}
+use Rattle.commitlog.specs.declared.limits.TheConstants.{RECORDS}
+use Rattle.commitlog.specs.LogBytes.{Fits, next_digest, record_bytes, records_bytes, digest_after}
+use Rattle.commitlog.specs.LogReadings.{Fronts}
+
+-- with one record more
+pub records_more : (d : Bytes) (rs : List Record) (r : Record) → records_bytes d (rs ++ r ∷ []) ≡ records_bytes d rs ++ record_bytes (digest_after d rs) r
+records_more d [] r = append-nil (record_bytes d r)
+records_more d (x ∷ rs) r =
+    ap (λ (t : Bytes). record_bytes d x ++ t) (records_more (next_digest d x) rs r)
+    ∙ sym (append_assoc (record_bytes d x) (records_bytes (next_digest d x) rs) (record_bytes (digest_after (next_digest d x) rs) r))
+
+pub digest_more : (d : Bytes) (rs : List Record) (r : Record) → digest_after d (rs ++ r ∷ []) ≡ next_digest (digest_after d rs) r
+digest_more d [] r = refl
+digest_more d (x ∷ rs) r = digest_more (next_digest d x) rs r
+
+pub fit_more : (v : Version) (rs : List Record) (r : Record) → AllByRecursion (Fits v) rs → Fits v r → AllByRecursion (Fits v) (rs ++ r ∷ [])
+fit_more v [] r fits one = (one, tt)
+fit_more v (x ∷ rs) r fits one = (fits.0, fit_more v rs r fits.1 one)
+
+pub fronts_more : (v : Version) (d : Bytes) (rs : List Record) (r : Record) (rest left all : Bytes) → Fronts v d rs rest all → length rs < RECORDS → Fits v r →
+    rest ≡ record_bytes (digest_after d rs) r ++ left → Fronts v d (rs ++ r ∷ []) left all
+fronts_more v d rs r rest left all f room fits text = record {
+  text =
+      f.text ∙ ap (λ (t : Bytes). records_bytes d rs ++ t) text
+      ∙ sym (append_assoc (records_bytes d rs) (record_bytes (digest_after d rs) r) left)
+      ∙ ap (λ (t : Bytes). t ++ left) (sym (records_more d rs r));
+  records = fit_more v rs r f.records fits;
+  count = omega (arith, length-append rs (r ∷ []));
+}
+
+-- the same, where the digest is that of the last record
+pub goes_on : (v : Version) (d g : Bytes) (rs : List Record) (r : Record) (rest left all : Bytes) → Fronts v d rs rest all → g ≡ digest_after d rs → length rs < RECORDS → Fits v r →
+    rest ≡ record_bytes g r ++ left → Fronts v d (rs ++ r ∷ []) left all
+goes_on v d g rs r rest left all f same room fits text =
+    fronts_more v d rs r rest left all f room fits (text ∙ ap (λ (x : Bytes). record_bytes x r ++ left) same)
+
+pub digest_on : (d g h : Bytes) (rs : List Record) (r : Record) → g ≡ digest_after d rs → h ≡ next_digest g r → h ≡ digest_after d (rs ++ r ∷ [])
+digest_on d g h rs r same e = e ∙ ap (λ (x : Bytes). next_digest x r) same ∙ sym (digest_more d rs r)

@@ -1,0 +1,456 @@
+//! Logs written as bytes.
+
+ghost use Rattle.std.specs.Prelude.{◌≡◌, ◌≢◌, Err, ◌*◌, ◌≤◌, ◌<◌, ◌↔◌, ◌++◌, IfOk, IsTrue, OnOk, length};
+ghost use Rattle.std.specs.List.{AllByRecursion, flat_map};
+ghost use Rattle.byteorder.specs.Endian.{big_bytes};
+ghost use Rattle.procedure.specs.declared.limits.TheConstants.{ARGUMENTS};
+ghost use Rattle.commitlog.specs.declared.limits.TheConstants.{BODY_BYTES, RECORDS, REPLIES};
+ghost use Rattle.commitlog.specs.declared.formats.Version.TheVariants.{One, Two};
+ghost use Rattle.sha2.specs.Sha256.{sha256};
+ghost use Rattle.commitlog.specs.Records.{IsInRange, Token, call_of};
+ghost use Rattle.commitlog.specs.declared.encoding.EncodeError.TheVariants as refused;
+ghost use Rattle.commitlog.specs.LogBytes.{Fits, IsReply, IsValue, IsWithin, answer_bytes, arguments_bytes, body, call_head, first_digest, header_bytes, log_bytes, next_digest, phase_code, record_bytes, records_bytes, reply_bytes, value_bytes};
+
+use crate::formats::{LogHeader, Version};
+use crate::limits::SMALL_VALUE_BYTES;
+use crate::records::{Entry, Record};
+use byteorder::{BigEndian, ByteOrder};
+use phase::Phase;
+use procedure::{Call, NoMemory, Sequence, Value};
+use sha2::{Digest, Sha256};
+use std::alloc::{AllocError, AllocFailed, Allocator};
+use std::error::Error;
+use std::fmt;
+
+/// Why a log isn't written in version 1.
+#[derive(Clone, Copy, Debug, PartialEq, Eq)]
+pub enum EncodeError {
+    /// An argument or reply has over 256 bytes.
+    TooLarge,
+    NoMemory,
+}
+
+impl fmt::Display for EncodeError {
+    ghost use Rattle.std.specs.Prelude.{Some};
+    ghost use Rattle.commitlog.specs.LogTexts.{encode_error_text};
+
+    ghost output = { λ e. Some (encode_error_text e) };
+
+    fn fmt<W: fmt::Write>(&self, f: &mut fmt::Formatter<W>) -> fmt::Result {
+        f.write_str(match self {
+            EncodeError::TooLarge => "too large",
+            EncodeError::NoMemory => "no memory",
+        })
+    }
+}
+
+impl Error for EncodeError {}
+
+impl From<NoMemory> for EncodeError {
+    ghost use Rattle.std.specs.Prelude.{◌≡◌};
+    ghost use Rattle.commitlog.specs.declared.encoding.EncodeError.TheVariants as refused;
+
+    ghost from_gives = { λ _ e. e ≡ refused.NoMemory };
+
+    fn from(_refused: NoMemory) -> Self {
+        EncodeError::NoMemory
+    }
+}
+
+fn write_u16<A: Allocator>(out: &mut Vec<u8, A>, number: u16) -> Result<(), NoMemory>
+    ensures { OnOk result (out.new.items ≡ out.old.items ++ big_bytes 2 number) }
+{
+    let mut bytes = [0u8; 2];
+    BigEndian::write_u16(&mut bytes, number);
+    out.extend_from_slice(&bytes)?;
+    Ok(())
+}
+
+fn write_u32<A: Allocator>(out: &mut Vec<u8, A>, number: u32) -> Result<(), NoMemory>
+    ensures { OnOk result (out.new.items ≡ out.old.items ++ big_bytes 4 number) }
+{
+    let mut bytes = [0u8; 4];
+    BigEndian::write_u32(&mut bytes, number);
+    out.extend_from_slice(&bytes)?;
+    Ok(())
+}
+
+fn write_u64<A: Allocator>(out: &mut Vec<u8, A>, number: u64) -> Result<(), NoMemory>
+    ensures { OnOk result (out.new.items ≡ out.old.items ++ big_bytes 8 number) }
+{
+    let mut bytes = [0u8; 8];
+    BigEndian::write_u64(&mut bytes, number);
+    out.extend_from_slice(&bytes)?;
+    Ok(())
+}
+
+fn phase_code(phase: Phase) -> u8
+    ensures { result ≡ phase_code phase }
+{
+    match phase {
+        Phase::Rest => 0,
+        Phase::Prepare => 1,
+        Phase::Resolve => 2,
+        Phase::Capture => 3,
+        Phase::Complete => 4,
+    }
+}
+
+fn write_value<A: Allocator>(out: &mut Vec<u8, A>, value: &Value<A>) -> Result<(), NoMemory>
+    ensures { OnOk result (out.new.items ≡ out.old.items ++ value_bytes value.now) }
+{
+    let bytes = value.as_bytes();
+    write_u16(out, bytes.len() as u16)?;
+    out.extend_from_slice(bytes)?;
+    Ok(())
+}
+
+fn write_reply<A: Allocator>(out: &mut Vec<u8, A>, reply: &Option<Value<A>>) -> Result<(), NoMemory>
+    ensures { OnOk result (out.new.items ≡ out.old.items ++ reply_bytes reply.now) }
+{
+    match reply {
+        None => Ok(out.push(0)?),
+        Some(value) => {
+            out.push(1)?;
+            write_value(out, value)
+        }
+    }
+}
+
+fn write_values<A: Allocator>(out: &mut Vec<u8, A>, values: &[Value<A>]) -> Result<(), NoMemory>
+    ensures { OnOk result (out.new.items ≡ out.old.items ++ flat_map value_bytes values.now) }
+{
+    for value in values {
+        write_value(out, value)?;
+    }
+    Ok(())
+}
+
+fn write_replies<A: Allocator>(
+    out: &mut Vec<u8, A>,
+    replies: &[Option<Value<A>>],
+) -> Result<(), NoMemory>
+    ensures { OnOk result (out.new.items ≡ out.old.items ++ flat_map reply_bytes replies.now) }
+{
+    for reply in replies {
+        write_reply(out, reply)?;
+    }
+    Ok(())
+}
+
+fn write_arguments<A: Allocator>(out: &mut Vec<u8, A>, args: &[Value<A>]) -> Result<(), NoMemory>
+    requires { length args.now ≤ ARGUMENTS }
+    ensures { OnOk result (out.new.items ≡ out.old.items ++ arguments_bytes args.now) }
+{
+    out.push(args.len() as u8)?;
+    write_values(out, args)
+}
+
+fn write_answer<A: Allocator>(
+    out: &mut Vec<u8, A>,
+    outcome: u8,
+    replies: &[Option<Value<A>>],
+) -> Result<(), NoMemory>
+    requires { length replies.now ≤ REPLIES }
+    ensures { OnOk result (out.new.items ≡ out.old.items ++ answer_bytes outcome replies.now) }
+{
+    out.extend_from_slice(&[outcome, replies.len() as u8])?;
+    write_replies(out, replies)
+}
+
+fn write_head<A: Allocator>(out: &mut Vec<u8, A>, call: &Call<A>) -> Result<(), NoMemory>
+    ensures { OnOk result (out.new.items ≡ out.old.items ++ call_head call.now.session call.now.number call.now.procedure) }
+{
+    write_u16(out, call.session)?;
+    write_u64(out, call.number)?;
+    write_u16(out, call.procedure)
+}
+
+fn write_token<A: Allocator>(
+    out: &mut Vec<u8, A>,
+    phase: Phase,
+    number: u64,
+) -> Result<(), NoMemory>
+    ensures { OnOk result (out.new.items ≡ out.old.items ++ body (Token phase number)) }
+{
+    out.extend_from_slice(&[0, phase_code(phase)])?;
+    write_u64(out, number)
+}
+
+fn write_parts<A: Allocator>(
+    out: &mut Vec<u8, A>,
+    args: &[Value<A>],
+    outcome: u8,
+    replies: &[Option<Value<A>>],
+) -> Result<(), NoMemory>
+    requires arguments { length args.now ≤ ARGUMENTS }
+    requires replies { length replies.now ≤ REPLIES }
+    ensures { OnOk result (out.new.items ≡ out.old.items ++ (arguments_bytes args.now ++ answer_bytes outcome replies.now)) }
+{
+    write_arguments(out, args)?;
+    write_answer(out, outcome, replies)
+}
+
+fn write_call<A: Allocator>(
+    out: &mut Vec<u8, A>,
+    call: &Call<A>,
+    outcome: u8,
+    replies: &[Option<Value<A>>],
+) -> Result<(), NoMemory>
+    requires arguments { length call.now.args ≤ ARGUMENTS }
+    requires replies { length replies.now ≤ REPLIES }
+    ensures { OnOk result (out.new.items ≡ out.old.items ++ body (call_of call.now outcome replies.now)) }
+{
+    out.push(1)?;
+    write_head(out, call)?;
+    write_parts(out, call.args.as_slice(), outcome, replies)
+}
+
+fn write_body<A: Allocator>(out: &mut Vec<u8, A>, record: &Record<A>) -> Result<(), NoMemory>
+    ensures { OnOk result (out.new.items ≡ out.old.items ++ body «record».now) }
+{
+    match record.entry() {
+        Entry::Token { phase, number } => write_token(out, *phase, *number),
+        Entry::Call {
+            call,
+            outcome,
+            replies,
+        } => write_call(out, call, *outcome, replies.as_slice()),
+    }
+}
+
+/// The bytes of arguments.
+fn values_length<A: Allocator>(values: &[Value<A>]) -> usize
+    requires { length values.now ≤ ARGUMENTS }
+    ensures length { result ≡ length (flat_map value_bytes values.now) }
+    ensures fits { AllByRecursion (IsValue Two) values.now }
+    ensures most { result ≤ 8 * 65_537 }
+{
+    let mut total = 0;
+    for value in values {
+        total += 2 + value.as_bytes().len();
+    }
+    total
+}
+
+fn reply_length<A: Allocator>(reply: &Option<Value<A>>) -> usize
+    ensures length { result ≡ length (reply_bytes reply.now) }
+    ensures fits { IsReply Two reply.now }
+    ensures most { result ≤ 65_538 }
+{
+    match reply {
+        None => 1,
+        Some(value) => 3 + value.as_bytes().len(),
+    }
+}
+
+/// The bytes of replies.
+fn replies_length<A: Allocator>(replies: &[Option<Value<A>>]) -> usize
+    requires { length replies.now ≤ REPLIES }
+    ensures length { result ≡ length (flat_map reply_bytes replies.now) }
+    ensures fits { AllByRecursion (IsReply Two) replies.now }
+    ensures most { result ≤ 64 * 65_538 }
+{
+    let mut total = 0;
+    for reply in replies {
+        total += reply_length(reply);
+    }
+    total
+}
+
+/// The bytes of a record's body.
+fn body_length<A: Allocator>(record: &Record<A>) -> usize
+    ensures length { result ≡ length (body «record».now) }
+    ensures fits { Fits Two «record».now }
+    ensures most { result ≤ BODY_BYTES }
+{
+    match record.entry() {
+        Entry::Token { number, .. } => {
+            let _number = *number;
+            10
+        }
+        Entry::Call {
+            call,
+            outcome,
+            replies,
+        } => call_length(call, *outcome, replies.as_slice()),
+    }
+}
+
+fn call_length<A: Allocator>(call: &Call<A>, outcome: u8, replies: &[Option<Value<A>>]) -> usize
+    requires arguments { length call.now.args ≤ ARGUMENTS }
+    requires replies { length replies.now ≤ REPLIES }
+    ensures length { result ≡ length (body (call_of call.now outcome replies.now)) }
+    ensures fits { IsWithin Two (call_of call.now outcome replies.now) }
+    ensures most { result ≤ BODY_BYTES }
+{
+    let _number = call.number;
+    16 + values_length(call.args.as_slice()) + replies_length(replies)
+}
+
+/// The digest of a chain with one body more.
+pub(crate) fn link(digest: &[u8; 32], body: &[u8]) -> [u8; 32]
+    ensures { result ≡ sha256 (digest.now ++ body.now) }
+{
+    let mut hasher = Sha256::new();
+    hasher.update(digest.as_slice());
+    hasher.update(body);
+    hasher.finalize()
+}
+
+/// Writes a record behind the digest of those before it, and answers its own. Room is made before.
+pub(crate) fn write_record<A: Allocator>(
+    out: &mut Vec<u8, A>,
+    digest: &[u8; 32],
+    record: &Record<A>,
+) -> Result<[u8; 32], NoMemory>
+    ensures bytes { OnOk result (out.new.items ≡ out.old.items ++ record_bytes digest.now «record».now) }
+    ensures digest { IfOk result (λ d. d ≡ next_digest digest.now «record».now) }
+    ensures fits { Fits Two «record».now }
+{
+    let length = body_length(record);
+    out.reserve(4 + length + 32)?;
+    write_u32(out, length as u32)?;
+    let start = out.len();
+    write_body(out, record)?;
+    let digest = link(digest, &out[start..]);
+    out.extend_from_slice(&digest)?;
+    Ok(digest)
+}
+
+fn write_records<A: Allocator>(
+    out: &mut Vec<u8, A>,
+    digest: [u8; 32],
+    records: &[Record<A>],
+) -> Result<(), NoMemory>
+    ensures bytes { OnOk result (out.new.items ≡ out.old.items ++ records_bytes digest records.now) }
+    ensures fits { OnOk result (AllByRecursion (Fits Two) records.now) }
+{
+    let mut digest = digest;
+    for record in records {
+        digest = write_record(out, &digest, record)?;
+    }
+    Ok(())
+}
+
+pub(crate) fn write_header<A: Allocator>(
+    out: &mut Vec<u8, A>,
+    version: Version,
+    header: &LogHeader,
+) -> Result<(), NoMemory>
+    ensures { OnOk result (out.new.items ≡ out.old.items ++ header_bytes version header.now) }
+{
+    out.extend_from_slice(&version.magic())?;
+    out.extend_from_slice(&header.catalog)?;
+    out.extend_from_slice(&header.opening)?;
+    Ok(())
+}
+
+fn write_log<A: Allocator>(
+    alloc: A,
+    version: Version,
+    header: &LogHeader,
+    records: &[Record<A>],
+) -> Result<Sequence<u8, A>, NoMemory>
+    ensures bytes { IfOk result (λ bytes. bytes ≡ log_bytes version header.now records.now) }
+    ensures fits { OnOk result (AllByRecursion (Fits Two) records.now) }
+{
+    let mut out = Vec::new(alloc);
+    write_header(&mut out, version, header)?;
+    let digest = Sha256::digest(out.as_slice());
+    write_records(&mut out, digest, records)?;
+    Ok(Sequence::new(out))
+}
+
+fn are_small<A: Allocator>(values: &[Value<A>]) -> bool
+    ensures { IsTrue result ↔ AllByRecursion (IsValue One) values.now }
+{
+    for value in values {
+        if value.as_bytes().len() > SMALL_VALUE_BYTES {
+            return false;
+        }
+    }
+    true
+}
+
+fn is_small_reply<A: Allocator>(reply: &Option<Value<A>>) -> bool
+    ensures { IsTrue result ↔ IsReply One reply.now }
+{
+    match reply {
+        None => true,
+        Some(value) => value.as_bytes().len() <= SMALL_VALUE_BYTES,
+    }
+}
+
+fn are_small_replies<A: Allocator>(replies: &[Option<Value<A>>]) -> bool
+    ensures { IsTrue result ↔ AllByRecursion (IsReply One) replies.now }
+{
+    for reply in replies {
+        if !is_small_reply(reply) {
+            return false;
+        }
+    }
+    true
+}
+
+/// Whether the record has no argument and no reply over 256 bytes.
+fn is_small<A: Allocator>(record: &Record<A>) -> bool
+    ensures { IsTrue result ↔ Fits One «record».now }
+{
+    match record.entry() {
+        Entry::Token { number, .. } => {
+            let _number = *number;
+            true
+        }
+        Entry::Call {
+            call,
+            outcome,
+            replies,
+        } => {
+            let (_number, _outcome) = (call.number, *outcome);
+            are_small(call.args.as_slice()) && are_small_replies(replies.as_slice())
+        }
+    }
+}
+
+fn all_small<A: Allocator>(records: &[Record<A>]) -> bool
+    ensures { IsTrue result ↔ AllByRecursion (Fits One) records.now }
+{
+    for record in records {
+        if !is_small(record) {
+            return false;
+        }
+    }
+    true
+}
+
+/// A log in version 2: `CALCLOG2`, the two digests of the header, and of each record the length of its
+/// body, the body, and the SHA-256 of the digest before it (at first that of the header) and the body.
+pub fn encode<A: Allocator>(
+    alloc: A,
+    header: &LogHeader,
+    records: &[Record<A>],
+) -> Result<Sequence<u8, A>, NoMemory>
+    requires { length records.now ≤ RECORDS }
+    ensures bytes { IfOk result (λ bytes. bytes ≡ log_bytes Two header.now records.now) }
+    ensures fits { OnOk result (AllByRecursion (Fits Two) records.now) }
+{
+    write_log(alloc, Version::Two, header, records)
+}
+
+/// A log in version 1: as `encode` writes it, but for the letters `CALCLOG1`.
+pub fn encode_v1<A: Allocator>(
+    alloc: A,
+    header: &LogHeader,
+    records: &[Record<A>],
+) -> Result<Sequence<u8, A>, EncodeError>
+    requires { length records.now ≤ RECORDS }
+    ensures bytes { IfOk result (λ bytes. bytes ≡ log_bytes One header.now records.now) }
+    ensures too_large { result ≡ Err refused.TooLarge → AllByRecursion (Fits One) records.now → ⊥ }
+    ensures fits { result ≢ Err refused.TooLarge → AllByRecursion (Fits One) records.now }
+{
+    if !all_small(records) {
+        return Err(EncodeError::TooLarge);
+    }
+    Ok(write_log(alloc, Version::One, header, records)?)
+}

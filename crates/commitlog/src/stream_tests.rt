@@ -1,0 +1,172 @@
+//! Tests of logs that go to a writer and come from a reader: devices that fail at a call, and that take
+//! or give few bytes a call.
+use super::*;
+use phase::Phase;
+use procedure::Sequence;
+use std::alloc::Global;
+use std::io::{Error, ErrorKind, Read, Result as IoResult, Write};
+use std::test::Fail;
+
+const HEADER: LogHeader = LogHeader {
+    catalog: [0x11; 32],
+    opening: [0x22; 32],
+};
+
+/// Keeps what is written, at most so many bytes a call, and fails once its calls are used up.
+#[derive(Debug, Drop)]
+struct Sink {
+    kept: Vec<u8, Global>,
+    most: usize,
+    calls: usize,
+}
+
+impl Write for Sink {
+    fn write(&mut self, buf: &[u8]) -> IoResult<usize> {
+        if self.calls == 0 {
+            return Err(Error::from(ErrorKind::Interrupted));
+        }
+        self.calls -= 1;
+        let taken = buf.len().min(self.most);
+        self.kept.extend_from_slice(&buf[..taken])?;
+        Ok(taken)
+    }
+
+    fn flush(&mut self) -> IoResult<()> {
+        Ok(())
+    }
+}
+
+/// Gives its bytes, at most so many a call, and fails once its calls are used up.
+#[derive(Debug, Drop)]
+struct Source {
+    left: Vec<u8, Global>,
+    most: usize,
+    calls: usize,
+}
+
+impl Read for Source {
+    fn read(&mut self, buf: &mut [u8]) -> IoResult<usize> {
+        if self.calls == 0 {
+            return Err(Error::from(ErrorKind::Interrupted));
+        }
+        self.calls -= 1;
+        let given = self.left.len().min(self.most).min(buf.len());
+        buf[..given].copy_from_slice(&self.left[..given]);
+        self.left = Vec::from_slice(self.left.allocator().clone()?, &self.left[given..])?;
+        Ok(given)
+    }
+}
+
+fn three_tokens(alloc: Global) -> Result<Vec<Record<Global>>, Fail> {
+    let mut records = Vec::new(alloc);
+    for phase in [Phase::Prepare, Phase::Resolve, Phase::Capture] {
+        records.push(Record::token(phase, 1))?;
+    }
+    Ok(records)
+}
+
+fn encoded(alloc: Global) -> Result<Sequence<u8, Global>, Fail> {
+    let records = three_tokens(alloc)?;
+    if records.len() > limits::RECORDS {
+        return Err("too many".into());
+    }
+    Ok(encode(alloc, &HEADER, &records)?)
+}
+
+/// What a writer with so many calls keeps, and what is answered.
+fn sent(
+    alloc: Global,
+    most: usize,
+    calls: usize,
+) -> Result<(Vec<u8, Global>, Option<WriteError>), Fail> {
+    let records = three_tokens(alloc)?;
+    if records.len() > limits::RECORDS {
+        return Err("too many".into());
+    }
+    let mut sink = Sink {
+        kept: Vec::new(alloc),
+        most,
+        calls,
+    };
+    let refused = encode_to(alloc, &mut sink, &HEADER, &records).err();
+    Ok((sink.kept, refused))
+}
+
+/// A log of 72 bytes and three records of 46.
+#[test]
+fn written_in_four_calls(rt: HostRuntime) -> Result<(), Fail> {
+    let alloc = rt.alloc();
+    let whole = encoded(alloc)?;
+    for (calls, length) in [(0, 0), (1, 72), (2, 118), (3, 164)] {
+        let (kept, refused) = sent(alloc, usize::MAX, calls)?;
+        assert_eq!(rt; refused, Some(WriteError::WriteFault));
+        assert_eq!(rt; kept.len(), length);
+        assert!(rt; whole.as_slice().starts_with(&kept));
+    }
+    let (kept, refused) = sent(alloc, usize::MAX, 4)?;
+    assert_eq!(rt; refused, None);
+    assert_eq!(rt; kept.as_slice(), whole.as_slice());
+    Ok(())
+}
+
+#[test]
+fn written_a_byte_a_call(rt: HostRuntime) -> Result<(), Fail> {
+    let alloc = rt.alloc();
+    let whole = encoded(alloc)?;
+    for calls in 0..210 {
+        let (kept, refused) = sent(alloc, 1, calls)?;
+        assert_eq!(rt; refused, Some(WriteError::WriteFault));
+        assert_eq!(rt; kept.len(), calls);
+        assert!(rt; whole.as_slice().starts_with(&kept));
+    }
+    let (kept, refused) = sent(alloc, 1, 210)?;
+    assert_eq!(rt; refused, None);
+    assert_eq!(rt; kept.as_slice(), whole.as_slice());
+    Ok(())
+}
+
+#[test]
+fn write_of_no_byte(rt: HostRuntime) -> Result<(), Fail> {
+    let (kept, refused) = sent(rt.alloc(), 0, 1)?;
+    assert_eq!(rt; refused, Some(WriteError::WriteFault));
+    assert!(rt; kept.is_empty());
+    Ok(())
+}
+
+/// How many records are read of a log that comes in pieces, by a reader with so many calls.
+fn received(alloc: Global, most: usize, calls: usize) -> Result<Result<usize, ReadError>, Fail> {
+    let whole = encoded(alloc)?;
+    let mut source = Source {
+        left: Vec::from_slice(alloc, whole.as_slice())?,
+        most,
+        calls,
+    };
+    Ok(match read_log_from(alloc, &mut source) {
+        Ok(log) => Ok(log.records.len()),
+        Err(refused) => Err(refused),
+    })
+}
+
+#[test]
+fn read_in_pieces(rt: HostRuntime) -> Result<(), Fail> {
+    let alloc = rt.alloc();
+    for (most, calls) in [(210, 2), (100, 4), (1, 211)] {
+        for fewer in 0..calls {
+            let refused = received(alloc, most, fewer)?;
+            assert_eq!(rt; refused, Err(ReadError::ReadFault));
+        }
+        assert_eq!(rt; received(alloc, most, calls)?, Ok(3));
+    }
+    Ok(())
+}
+
+#[test]
+fn nothing_to_read(rt: HostRuntime) {
+    let mut source = Source {
+        left: Vec::new(rt.alloc()),
+        most: 1,
+        calls: 1,
+    };
+    let refused = read_log_from(rt.alloc(), &mut source).err();
+    assert_eq!(rt; refused, Some(ReadError::Log(LogError::NotALog)));
+}

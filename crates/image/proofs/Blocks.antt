@@ -1,0 +1,55 @@
+-- Entries cut into blocks.
+use Rattle.std.proofs.Common.{◌≡◌, ◌≤◌, ◌<◌, ℕ, suc, ◌-◌, List, [], ◌∷◌, ◌++◌, length, take, drop, min, sym, ap, subst, ◌∙◌, append_assoc, arith, inl, inr}
+use Rattle.std.specs.List.{AllByRecursion}
+use Rattle.std.proofs.lemmas.Bool.{cases_lt}
+use Rattle.std.proofs.lemmas.List.{length-drop, take_all, drop_all, take-append-drop}
+use Rattle.procedure.specs.Bytes.{Bytes}
+use Rattle.image.specs.Images.{Entry}
+use Rattle.image.specs.ImageBytes.{block_bytes, block_count, block_digest, blocks_bytes}
+
+pub count-step : (n : ℕ) → 0 < n → block_count n ≡ suc (block_count (n - 64))
+count-step n some = elim (cases_lt n 64) [
+  | inl few ↦ omega arith
+  | inr many ↦ omega arith
+]
+
+-- the first block, and those after it
+pub blocks-step : (before : Bytes) (es : List Entry) → 0 < length es →
+    blocks_bytes (block_count (length es)) before es ≡ block_bytes before (take 64 es) ++ blocks_bytes (block_count (length (drop 64 es))) (block_digest before (take 64 es)) (drop 64 es)
+blocks-step before es some =
+    ap (λ m. blocks_bytes m before es) (count-step (length es) some)
+    ∙ ap (λ n. block_bytes before (take 64 es) ++ blocks_bytes (block_count n) (block_digest before (take 64 es)) (drop 64 es)) (sym (length-drop 64 es))
+
+-- the shorter of 64 and the whole is 64, or the whole
+at_min : {X : Type 0} (f : ℕ → List X → List X) (es : List X) → ((n : ℕ) → length es ≤ n → f n es ≡ f (length es) es) → (k : ℕ) → k ≡ min (length es) 64 → f k es ≡ f 64 es
+at_min f es past k is = elim (cases_lt (length es) 64) [
+  | inl few ↦ let short : k ≡ length es = omega arith in ap (λ n. f n es) short ∙ sym (past 64 (omega arith))
+  | inr many ↦ let long : k ≡ 64 = omega arith in ap (λ n. f n es) long
+]
+
+cut_take : {X : Type 0} (es : List X) (k : ℕ) → k ≡ min (length es) 64 → take k es ≡ take 64 es
+cut_take es k is = at_min (λ n l. take n l) es (λ n le. take_all n es le ∙ sym (take_all (length es) es (omega arith))) k is
+
+cut_drop : {X : Type 0} (es : List X) (k : ℕ) → k ≡ min (length es) 64 → drop k es ≡ drop 64 es
+cut_drop es k is = at_min (λ n l. drop n l) es (λ n le. drop_all n es le ∙ sym (drop_all (length es) es (omega arith))) k is
+
+-- one block more is out
+pub block_out : (before d : Bytes) (es b r : List Entry) (k : ℕ) (out new whole : Bytes) → 0 < length es → k ≡ min (length es) 64 → b ≡ take k es → r ≡ drop k es →
+    new ≡ out ++ block_bytes before b → d ≡ block_digest before b → out ++ blocks_bytes (block_count (length es)) before es ≡ whole →
+    new ++ blocks_bytes (block_count (length r)) d r ≡ whole
+block_out before d es b r k out new whole some is front back written digest all =
+    let b-is : b ≡ take 64 es = front ∙ cut_take es k is in
+    let r-is : r ≡ drop 64 es = back ∙ cut_drop es k is in
+    (λ i. written i ++ blocks_bytes (block_count (length (r-is i))) (digest i) (r-is i))
+    ∙ ap (λ (x : List Entry). (out ++ block_bytes before x) ++ blocks_bytes (block_count (length (drop 64 es))) (block_digest before x) (drop 64 es)) b-is
+    ∙ append_assoc out _ _
+    ∙ ap (λ (x : Bytes). out ++ x) (sym (blocks-step before es some))
+    ∙ all
+
+pub all_parts : (P : Entry → Type 0) (es b r : List Entry) (k : ℕ) → b ≡ take k es → r ≡ drop k es → AllByRecursion P b → AllByRecursion P r → AllByRecursion P es
+all_parts P es b r k front back here there =
+    subst (AllByRecursion P) ((λ i. front i ++ back i) ∙ take-append-drop k es) (both b here)
+  where
+    both : (xs : List Entry) → AllByRecursion P xs → AllByRecursion P (xs ++ r)
+    both [] h = there
+    both (x ∷ xs) h = (h.0, both xs h.1)

@@ -1,0 +1,218 @@
+//! Images as bytes.
+
+ghost use Rattle.std.specs.Prelude.{◌≡◌, ◌↔◌, ◌++◌, ◌≤◌, Err, IfOk, IfSome, IsTrue, OnOk, length};
+ghost use Rattle.std.specs.List.{All, AllByRecursion};
+ghost use Rattle.byteorder.specs.Endian.{big_bytes};
+ghost use Rattle.sha2.specs.Sha256.{sha256};
+ghost use Rattle.procedure.specs.declared.limits.TheConstants.{VALUE_BYTES};
+ghost use Rattle.image.specs.EntryBytes.{entry_bytes};
+ghost use Rattle.image.specs.ImageBytes.{HasNumbers, HasSmallValues, IsVersion1, IsVersion2, IsWithin, block_bytes, block_count, block_digest, blocks_bytes, entries_bytes, header_bytes, signed, version_1};
+ghost use Rattle.image.specs.declared.errors.SealError.TheVariants as refused;
+
+use crate::entries::Entry;
+use crate::errors::SealError;
+use crate::images::{Image, Kind};
+use crate::limits::{BLOCK, FIRST_VALUE_BYTES};
+use byteorder::{BigEndian, ByteOrder};
+use procedure::NoMemory;
+use sha2::{Digest, Sha256};
+use std::alloc::Allocator;
+
+/// With what the bytes of version 1 begin.
+pub const FIRST: [u8; 8] = *b"CALCIMG1";
+
+/// With what the bytes of version 2 begin.
+pub const SECOND: [u8; 8] = *b"CALCIMG2";
+
+fn write_u16<A: Allocator>(out: &mut Vec<u8, A>, number: u16) -> Result<(), NoMemory>
+    ensures { OnOk result (out.new.items ≡ out.old.items ++ big_bytes 2 number) }
+{
+    let mut bytes = [0u8; 2];
+    BigEndian::write_u16(&mut bytes, number);
+    Ok(out.extend_from_slice(&bytes)?)
+}
+
+fn write_u32<A: Allocator>(out: &mut Vec<u8, A>, number: u32) -> Result<(), NoMemory>
+    ensures { OnOk result (out.new.items ≡ out.old.items ++ big_bytes 4 number) }
+{
+    let mut bytes = [0u8; 4];
+    BigEndian::write_u32(&mut bytes, number);
+    Ok(out.extend_from_slice(&bytes)?)
+}
+
+fn write_u64<A: Allocator>(out: &mut Vec<u8, A>, number: u64) -> Result<(), NoMemory>
+    ensures { OnOk result (out.new.items ≡ out.old.items ++ big_bytes 8 number) }
+{
+    let mut bytes = [0u8; 8];
+    BigEndian::write_u64(&mut bytes, number);
+    Ok(out.extend_from_slice(&bytes)?)
+}
+
+fn write_entry<A: Allocator, B: Allocator>(
+    out: &mut Vec<u8, B>,
+    entry: &Entry<A>,
+) -> Result<(), NoMemory>
+    ensures bytes { OnOk result (out.new.items ≡ out.old.items ++ entry_bytes entry.now) }
+    ensures fits { OnOk result (IsWithin VALUE_BYTES entry.now) }
+{
+    let key = entry.key.as_bytes();
+    out.push(key.len() as u8)?;
+    out.extend_from_slice(key)?;
+    match &entry.cell {
+        None => out.push(0)?,
+        Some(value) => {
+            let bytes = value.as_bytes();
+            out.push(1)?;
+            write_u16(out, bytes.len() as u16)?;
+            out.extend_from_slice(bytes)?;
+        }
+    }
+    Ok(())
+}
+
+fn write_entries<A: Allocator, B: Allocator>(
+    out: &mut Vec<u8, B>,
+    entries: &[Entry<A>],
+) -> Result<(), NoMemory>
+    ensures bytes { OnOk result (out.new.items ≡ out.old.items ++ entries_bytes entries.now) }
+    ensures fits { OnOk result (AllByRecursion (IsWithin VALUE_BYTES) entries.now) }
+{
+    for entry in entries {
+        write_entry(out, entry)?;
+    }
+    Ok(())
+}
+
+fn kind_byte(kind: Kind) -> u8
+    ensures { result ≡ Rattle.image.specs.ImageBytes.kind_byte kind }
+{
+    match kind {
+        Kind::Full => 0,
+        Kind::Partial => 1,
+    }
+}
+
+#[tactic(auto, unfolding(crate::specs::ImageBytes::header_bytes))]
+fn write_header<A: Allocator, B: Allocator>(
+    out: &mut Vec<u8, B>,
+    magic: &[u8; 8],
+    image: &Image<A>,
+) -> Result<(), NoMemory>
+    ensures bytes { OnOk result (out.new.items ≡ out.old.items ++ header_bytes magic.now image.now) }
+    ensures fits { OnOk result (HasNumbers image.now) }
+{
+    out.extend_from_slice(magic)?;
+    out.push(kind_byte(image.kind()))?;
+    write_u64(out, image.number())?;
+    write_u64(out, image.base())?;
+    write_u64(out, image.place())?;
+    write_u32(out, image.entries().len() as u32)
+}
+
+/// The header of version 2 and its digest, which is handed back.
+fn write_signed_header<A: Allocator, B: Allocator>(
+    out: &mut Vec<u8, B>,
+    image: &Image<A>,
+) -> Result<[u8; 32], NoMemory>
+    ensures bytes { OnOk result (out.new.items ≡ out.old.items ++ signed (header_bytes SECOND image.now)) }
+    ensures digest { IfOk result (λ d. d ≡ sha256 (header_bytes SECOND image.now)) }
+    ensures fits { OnOk result (HasNumbers image.now) }
+{
+    let start = out.len();
+    write_header(out, &SECOND, image)?;
+    let digest = Sha256::digest(&out[start..]);
+    out.extend_from_slice(&digest)?;
+    Ok(digest)
+}
+
+/// A block of entries and the digest behind it, which is handed back.
+fn write_block<A: Allocator, B: Allocator>(
+    out: &mut Vec<u8, B>,
+    before: &[u8; 32],
+    entries: &[Entry<A>],
+) -> Result<[u8; 32], NoMemory>
+    ensures bytes { OnOk result (out.new.items ≡ out.old.items ++ block_bytes before.now entries.now) }
+    ensures digest { IfOk result (λ d. d ≡ block_digest before.now entries.now) }
+    ensures fits { OnOk result (AllByRecursion (IsWithin VALUE_BYTES) entries.now) }
+{
+    let start = out.len();
+    write_entries(out, entries)?;
+    let mut hasher = Sha256::new();
+    hasher.update(before.as_slice());
+    hasher.update(&out[start..]);
+    let digest = hasher.finalize();
+    out.extend_from_slice(&digest)?;
+    Ok(digest)
+}
+
+fn write_blocks<A: Allocator, B: Allocator>(
+    out: &mut Vec<u8, B>,
+    before: [u8; 32],
+    entries: &[Entry<A>],
+) -> Result<(), NoMemory>
+    ensures bytes { OnOk result (out.new.items ≡ out.old.items ++ blocks_bytes (block_count (length entries.now)) before entries.now) }
+    ensures fits { OnOk result (AllByRecursion (IsWithin VALUE_BYTES) entries.now) }
+{
+    let mut digest = before;
+    let mut rest = entries;
+    while !rest.is_empty() {
+        let (block, after) = rest.split_at(rest.len().min(BLOCK));
+        digest = write_block(out, &digest, block)?;
+        rest = after;
+    }
+    Ok(())
+}
+
+/// The image's bytes in version 2.
+pub fn seal<A: Allocator>(alloc: A, image: &Image<A>) -> Result<Vec<u8, A>, NoMemory>
+    ensures { IfOk result (λ bytes. IsVersion2 image.now bytes.items) }
+{
+    let mut out = Vec::new(alloc);
+    let digest = write_signed_header(&mut out, image)?;
+    write_blocks(&mut out, digest, image.entries())?;
+    Ok(out)
+}
+
+fn is_small<A: Allocator>(entry: &Entry<A>) -> bool
+    ensures { IsTrue result ↔ IfSome entry.now.1 (λ v. length v ≤ FIRST_VALUE_BYTES) }
+{
+    match &entry.cell {
+        None => true,
+        Some(value) => value.as_bytes().len() <= FIRST_VALUE_BYTES,
+    }
+}
+
+fn are_small<A: Allocator>(entries: &[Entry<A>]) -> bool
+    ensures { IsTrue result ↔ All (λ e. IfSome e.1 (λ v. length v ≤ FIRST_VALUE_BYTES)) entries.now }
+{
+    entries.iter().all(|entry| is_small(entry))
+}
+
+/// Header and entries of version 1, and their digest.
+fn write_first<A: Allocator, B: Allocator>(
+    out: &mut Vec<u8, B>,
+    image: &Image<A>,
+) -> Result<(), NoMemory>
+    ensures bytes { OnOk result (out.new.items ≡ out.old.items ++ version_1 image.now) }
+    ensures numbers { OnOk result (HasNumbers image.now) }
+    ensures entries { OnOk result (AllByRecursion (IsWithin VALUE_BYTES) image.now.entries) }
+{
+    let start = out.len();
+    write_header(out, &FIRST, image)?;
+    write_entries(out, image.entries())?;
+    let digest = Sha256::digest(&out[start..]);
+    Ok(out.extend_from_slice(&digest)?)
+}
+
+/// The image's bytes in version 1, which has room for values of up to 256 bytes.
+pub fn seal_v1<A: Allocator>(alloc: A, image: &Image<A>) -> Result<Vec<u8, A>, SealError>
+    ensures bytes { IfOk result (λ bytes. IsVersion1 image.now bytes.items) }
+    ensures too_large { (result ≡ Err refused.TooLarge) ↔ (HasSmallValues image.now → ⊥) }
+{
+    if !are_small(image.entries()) {
+        return Err(SealError::TooLarge);
+    }
+    let mut out = Vec::new(alloc);
+    write_first(&mut out, image)?;
+    Ok(out)
+}

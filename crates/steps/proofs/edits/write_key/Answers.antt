@@ -1,0 +1,51 @@
+use Rattle.std.proofs.Common.{◌≡◌, ap, ◌∙◌, sym, subst, None, Some, Option, Bool, IsSome, Err}
+use Rattle.record_store.specs.Stores.{Slots, changed, live_at, with_record, new_record}
+use Rattle.procedure.specs.Bytes.{Bytes, Cell}
+use Rattle.record_store.specs.declared.stores.CreateError.{CreateError}
+use Rattle.record_store.specs.declared.stores.CreateError.TheVariants.{TableFull}
+use Rattle.steps.specs.World.{live_of, Version}
+use Rattle.steps.specs.Edits.{versions_in, edited, written}
+use Rattle.steps.proofs.Edited.{found_in, none_in, live_in, live_created, versions_written, versions_made}
+use Rattle.steps.proofs.edits.write_key.Goals as goal
+
+pub returns-in-Ok-clause-before : goal.returns-in-Ok-clause-before
+returns-in-Ok-clause-before g c = c.in-Ok.ensures.before ∙ live_in c.args.store.now c.in-Some.slot c.args.key c.find.ensures.once c.in-Some.ensures.found
+
+pub returns-in-Ok-clause-ok : goal.returns-in-Ok-clause-ok
+returns-in-Ok-clause-ok g c q =
+    ap (λ (l : Slots). versions_in l q) c.in-Ok.ensures.ok
+    ∙ versions_written c.args.phase c.args.start c.args.live c.args.store.now c.in-Some.slot c.args.key q c.find.ensures.once c.in-Some.ensures.found
+
+pub returns-in-Ok-clause-full : goal.returns-in-Ok-clause-full
+returns-in-Ok-clause-full g c =
+    let found = found_in c.args.store.now c.in-Some.slot c.args.key c.find.ensures.once c.in-Some.ensures.found in
+    (λ e. absurd (cc), λ e. let none : versions_in c.args.store.now c.args.key ≡ None = e.1 in let some = found.2 in absurd (cc))
+
+pub returns-in-Err-clause-full : goal.returns-in-Err-clause-full
+returns-in-Err-clause-full g c =
+    let found = found_in c.args.store.now c.in-Some.slot c.args.key c.find.ensures.once c.in-Some.ensures.found in
+    (λ e. absurd (cc), λ e. let none : versions_in c.args.store.now c.args.key ≡ None = e.1 in let some = found.2 in absurd (cc))
+
+pub returns-in-Ok-write_record-clause-before : goal.returns-in-Ok-write_record-clause-before
+returns-in-Ok-write_record-clause-before g c =
+    c.in-Ok-write_record.ensures.before ∙ ap (λ (l : Slots). live_at l c.in-Ok-create.slot) c.in-Ok-create.ensures.ok
+    ∙ live_created c.args.store.now c.in-Ok-create.slot c.args.key c.is_late.result
+    ∙ sym (ap live_of (none_in c.args.store.now c.args.key c.in-None.ensures.found))
+
+pub returns-in-Ok-write_record-clause-ok : goal.returns-in-Ok-write_record-clause-ok
+returns-in-Ok-write_record-clause-ok g c q =
+    ap (λ (l : Slots). versions_in l q) (c.in-Ok-write_record.ensures.ok ∙ ap (λ (l : Slots). changed (edited (written c.args.start c.args.live)) l c.in-Ok-create.slot)
+    (c.in-Ok-create.ensures.ok ∙ ap (λ (b : Bool). with_record c.args.store.now c.in-Ok-create.slot (new_record c.args.key b)) c.is_late.ensures))
+    ∙ versions_made c.args.phase c.args.start c.args.live c.args.store.now c.in-Ok-create.slot c.args.key q c.find.ensures.once c.in-Ok-create.ensures.vacant c.in-None.ensures.found
+
+pub returns-in-Err-write_record-clause-err : goal.returns-in-Err-write_record-clause-err
+returns-in-Err-write_record-clause-err g c =
+    let none = ap (λ (l : Slots). live_at l c.in-Ok-create.slot) c.in-Ok-create.ensures.ok ∙ live_created c.args.store.now c.in-Ok-create.slot c.args.key c.is_late.result in
+    absurd (let some : IsSome {T = Bytes} None = subst (λ (x : Cell). IsSome x) none c.in-Err-write_record.ensures.memory in cc)
+
+pub returns-in-Err-create-clause-full : goal.returns-in-Err-create-clause-full
+returns-in-Err-create-clause-full g c =
+    let none = none_in c.args.store.now c.args.key c.in-None.ensures.found in (
+      λ e. let is : c.in-Err-create.refused ≡ TableFull = cc in (c.in-Err-create.ensures.full.0 (ap (λ (x : CreateError). Err x) is), none),
+      λ e. let is = c.in-Err-create.ensures.full.1 e.0 in let same : c.in-Err-create.refused ≡ TableFull = cc in ap (λ (x : CreateError). Err x) same,
+    )

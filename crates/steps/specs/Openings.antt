@@ -1,0 +1,33 @@
+-- What a core holds when it was opened.
+use Rattle.std.specs.Prelude.{◌≡◌, ℕ, ◌==◌, Bool, false, cond, ◌&&◌, List, [], ◌∷◌, replicate, Option, Some, None}
+use Rattle.procedure.specs.Bytes.{Bytes, same}
+use Rattle.procedure.specs.Procedures.{Procedure}
+use Rattle.procedure.specs.Table.{value_at}
+use Rattle.procedure.specs.declared.limits.TheConstants.{SESSIONS}
+use Rattle.phase.specs.declared.phases.Phase.TheVariants.{Rest}
+use Rattle.image.specs.Images.{Entry, Image}
+use Rattle.image.specs.Merges.{is_full, table_of}
+use Rattle.steps.specs.CoreViews.{CoreView}
+use Rattle.steps.specs.Edits.{versions_in}
+use Rattle.steps.specs.World.{Versions, opened, wrote}
+
+-- full, with number, base and place 0
+abbrev pub is_opening : Image → Bool
+is_opening i = is_full i.kind && ((i.number == 0) && ((i.base == 0) && (i.place == 0)))
+
+-- the versions with one entry more
+abbrev pub with_opened : Versions → Entry → Versions
+with_opened vs e q = cond (same q e.0) (Some (wrote Rest Rest (vs e.0) e.1)) (vs q)
+
+-- the versions with these entries, one after another
+abbrev pub opened_with : Versions → List Entry → Versions
+opened_with vs [] = vs
+opened_with vs (e ∷ es) = opened_with (with_opened vs e) es
+
+-- no call is open, the log is empty, and each key of the opening, and no other, has a record with its value
+pub record IsOpened (c : List Procedure) (i : Image) (v : CoreView) : Type 0 where
+  pub catalog : v.catalog ≡ c
+  pub opening : v.opening ≡ i
+  pub log : v.log ≡ []
+  pub calls : v.calls ≡ replicate SESSIONS None
+  pub versions : (q : Bytes) → versions_in v.slots q ≡ opened (value_at (table_of i) q)

@@ -1,0 +1,81 @@
+//! The core.
+
+ghost use Rattle.std.specs.Prelude.{◌≡◌, ◌<◌, ◌↔◌, IfOk, IsTrue, length, map, Some, None, option_copied};
+ghost use Rattle.procedure.specs.declared.limits.TheConstants.{SESSIONS};
+ghost use Rattle.commitlog.specs.Histories.{phase_of};
+ghost use Rattle.steps.specs.CoreViews.{open_at};
+
+use crate::calls::OpenCall;
+use commitlog::{Log, Record};
+use image::Image;
+use locktable::LockTable;
+use phase::{Active, Phase};
+use procedure::{Catalog, Procedure};
+use record_store::{Changed, Store};
+use std::alloc::Allocator;
+use std::marker::Model;
+
+/// The engine's core: it runs the calls of 64 sessions, instruction by instruction, under strict
+/// two-phase locking, and answers each finished call with its place in the commit log.
+#[derive(Drop)]
+pub struct Core<A: Allocator> {
+    pub(crate) alloc: A,
+    pub(crate) catalog: Catalog<A>,
+    pub(crate) opening: Image<A>,
+    pub(crate) log: Log<A>,
+    pub(crate) store: Store<A>,
+    pub(crate) locks: LockTable<A>,
+    pub(crate) changed: Changed<A>,
+    pub(crate) calls: Vec<Option<OpenCall<A>>, A>,
+    pub(crate) active: Active,
+    pub(crate) last: Vec<Option<u64>, A>,
+    pub(crate) phase: Phase,
+}
+
+impl<A: Allocator> Model for Core<A> {
+    ghost use Rattle.steps.specs.CoreViews.{CoreView};
+
+    ghost Value = { CoreView };
+
+    ghost use Rattle.steps.specs.CoreFields.{view_of, IsCore};
+
+    ghost view = { view_of };
+
+    ghost invariant = { IsCore };
+}
+
+impl<A: Allocator> Core<A> {
+    /// The phase of the running checkpoint, or rest.
+    pub fn phase(&self) -> Phase
+        ensures { result ≡ phase_of self.now.log }
+    {
+        self.phase
+    }
+
+    /// The records of the log, the oldest first.
+    pub fn records(&self) -> &[Record<A>]
+        ensures { result.now ≡ self.now.log }
+    {
+        self.log.records()
+    }
+
+    /// How many slots the store has.
+    pub fn slots(&self) -> usize
+        ensures { result ≡ length self.now.slots }
+    {
+        self.store.slots()
+    }
+
+    pub fn catalog(&self) -> &[Procedure<A>]
+        ensures { result.now ≡ self.now.catalog }
+    {
+        self.catalog.procedures()
+    }
+
+    /// The image that it was opened from.
+    pub fn opening(&self) -> &Image<A>
+        ensures { result.now ≡ self.now.opening }
+    {
+        &self.opening
+    }
+}

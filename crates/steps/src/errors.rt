@@ -1,0 +1,125 @@
+//! Why a call is refused.
+
+ghost use Rattle.std.specs.Prelude.{Some};
+
+use procedure::NoMemory;
+use std::error::Error;
+use std::fmt;
+
+/// Why a core isn't opened.
+#[derive(Clone, Copy, Debug, PartialEq, Eq)]
+pub enum OpenError {
+    /// The image isn't full, or its number, base or place isn't 0.
+    NotAnOpening,
+    NoMemory,
+}
+
+/// Why a call doesn't begin. The first that holds, in this order, is answered.
+#[derive(Clone, Copy, Debug, PartialEq, Eq)]
+pub enum BeginError {
+    /// The session is over 63.
+    NoSession,
+    /// The catalog has no such procedure.
+    NoProcedure,
+    /// The procedure takes another number of arguments.
+    Arity,
+    /// An argument has over 65,535 bytes.
+    ArgSize,
+    /// The session has an open call.
+    SessionBusy,
+    /// The number isn't above that of the session's last call in the log.
+    OldNumber,
+    NoMemory,
+}
+
+/// Why a call isn't answered. The first that holds, in this order, is.
+#[derive(Clone, Copy, Debug, PartialEq, Eq)]
+pub enum FinishError {
+    /// The session has no open call, or is over 63.
+    NotActive,
+    /// The call has instructions left.
+    NotReady,
+    /// The log has 1,000,000 records.
+    LogFull,
+    NoMemory,
+}
+
+impl fmt::Display for FinishError {
+    ghost use Rattle.steps.specs.Refusals.{finish_error_text};
+
+    ghost output = { λ e. Some (finish_error_text e) };
+
+    fn fmt<W: fmt::Write>(&self, f: &mut fmt::Formatter<W>) -> fmt::Result {
+        f.write_str(match self {
+            FinishError::NotActive => "not active",
+            FinishError::NotReady => "not ready",
+            FinishError::LogFull => "log full",
+            FinishError::NoMemory => "no memory",
+        })
+    }
+}
+
+impl Error for FinishError {}
+
+/// The session has no open call, or is over 63.
+#[derive(Clone, Copy, Debug, PartialEq, Eq)]
+pub struct NotActive;
+
+impl fmt::Display for NotActive {
+    ghost use Rattle.std.specs.Prelude.{codes};
+
+    ghost output = { λ _. Some (codes "not active") };
+
+    fn fmt<W: fmt::Write>(&self, f: &mut fmt::Formatter<W>) -> fmt::Result {
+        f.write_str("not active")
+    }
+}
+
+impl Error for NotActive {}
+
+impl fmt::Display for OpenError {
+    ghost use Rattle.steps.specs.Refusals.{open_error_text};
+
+    ghost output = { λ e. Some (open_error_text e) };
+
+    fn fmt<W: fmt::Write>(&self, f: &mut fmt::Formatter<W>) -> fmt::Result {
+        f.write_str(match self {
+            OpenError::NotAnOpening => "not an opening",
+            OpenError::NoMemory => "no memory",
+        })
+    }
+}
+
+impl Error for OpenError {}
+
+impl From<NoMemory> for OpenError {
+    fn from(_refused: NoMemory) -> Self {
+        OpenError::NoMemory
+    }
+}
+
+impl fmt::Display for BeginError {
+    ghost use Rattle.steps.specs.Refusals.{begin_error_text};
+
+    ghost output = { λ e. Some (begin_error_text e) };
+
+    fn fmt<W: fmt::Write>(&self, f: &mut fmt::Formatter<W>) -> fmt::Result {
+        f.write_str(match self {
+            BeginError::NoSession => "no session",
+            BeginError::NoProcedure => "no procedure",
+            BeginError::Arity => "arity",
+            BeginError::ArgSize => "arg size",
+            BeginError::SessionBusy => "session busy",
+            BeginError::OldNumber => "old number",
+            BeginError::NoMemory => "no memory",
+        })
+    }
+}
+
+impl Error for BeginError {}
+
+impl From<NoMemory> for BeginError {
+    fn from(_refused: NoMemory) -> Self {
+        BeginError::NoMemory
+    }
+}

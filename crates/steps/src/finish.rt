@@ -1,0 +1,237 @@
+//! How a call is answered.
+
+ghost use Rattle.std.specs.Prelude.{◌≡◌, ◌≤◌, ◌≢◌, ◌==◌, ◌↔◌, ◌||◌, ◌++◌, ◌∷◌, [], ℕ, IfOk, OnErr, OnOk, None, Some, option_copied, if◌then◌else◌, is_some, length, map, slice_index_or, slice_set, vec_len};
+ghost use Rattle.procedure.specs.Bytes.{Bytes};
+ghost use Rattle.procedure.specs.Runs.{ended};
+ghost use Rattle.procedure.specs.declared.outcomes.TheConstants.{COMMITTED};
+ghost use Rattle.commitlog.specs.Records.{IsInRange, call_of};
+ghost use Rattle.commitlog.specs.declared.limits.TheConstants.{RECORDS};
+ghost use Rattle.record_store.specs.ChangedSets.{has, room};
+ghost use Rattle.steps.specs.Edits.{all_kept, all_undone, first_noted, noted_of, versions_in};
+ghost use Rattle.steps.specs.CoreFields.{notes_at};
+ghost use Rattle.steps.specs.CoreViews.{Finishes, IsAnswer, OfOpen, front_of, open_at};
+ghost use Rattle.steps.specs.Refusals.{Answers, finish_refusal};
+ghost use Rattle.steps.specs.declared.errors.FinishError.TheVariants as refused;
+
+use crate::calls::OpenCall;
+use crate::cores::Core;
+use crate::edits::{collect, keep_all, undo_all};
+use crate::errors::FinishError;
+use crate::give_up::taken;
+use crate::notes::Note;
+use commitlog::{Log, Record};
+use phase::Phase;
+use procedure::outcomes::COMMITTED;
+use procedure::{Access, Call, Machine, NoMemory, Sequence, Value};
+use record_store::{Changed, Store};
+use std::alloc::Allocator;
+
+/// The outcome, where the call has ended.
+pub(crate) fn outcome_of<A: Allocator>(machine: &Machine<A>) -> Option<u8>
+    ensures { result ≡ ended machine.now.progress }
+{
+    match machine.access() {
+        Access::Ended(outcome) => Some(outcome),
+        _ => None,
+    }
+}
+
+/// The open call of a session.
+pub(crate) fn call_of<A: Allocator>(
+    calls: &[Option<OpenCall<A>>],
+    session: usize,
+) -> Option<&OpenCall<A>>
+    ensures { option_copied result ≡ slice_index_or calls.now session None }
+{
+    match calls.get(session) {
+        Some(Some(call)) => Some(call),
+        _ => None,
+    }
+}
+
+/// How many writes of a session's call are noted.
+fn count_notes<A: Allocator>(calls: &[Option<OpenCall<A>>], session: usize) -> usize
+    ensures { result ≡ length (notes_at calls.now session) }
+{
+    match calls.get(session) {
+        Some(Some(call)) => call.notes.len(),
+        _ => 0,
+    }
+}
+
+/// Room for one record more in the log, and for so many keys more among the collected ones.
+fn make_room<A: Allocator>(
+    changed: &mut Changed<A>,
+    log: &mut Log<A>,
+    more: usize,
+) -> Result<(), NoMemory>
+    ensures records { log.new.records ≡ log.old.records }
+    ensures collecting { changed.new.collecting ≡ changed.old.collecting }
+    ensures frozen { changed.new.frozen ≡ changed.old.frozen }
+    ensures log_room { OnOk result (1 ≤ log.new.room) }
+    ensures room { OnOk result (more ≤ room changed.new) }
+{
+    changed.make_room(more)?;
+    log.make_room()
+}
+
+/// A call that ended, as a record of the log.
+fn record_of<A: Allocator>(
+    call: Call<A>,
+    outcome: u8,
+    replies: Sequence<Option<Value<A>>, A>,
+) -> Record<A>
+    requires { IsInRange (call_of call outcome replies) }
+    ensures { result ≡ call_of call outcome replies }
+{
+    match Record::call(call, outcome, replies) {
+        Some(record) => record,
+        None => unreachable!(),
+    }
+}
+
+/// A record goes into the log, which has room for it.
+fn append<A: Allocator>(log: &mut Log<A>, added: Record<A>)
+    requires not_full { length log.old.records ≢ RECORDS }
+    requires room { 1 ≤ log.old.room }
+    ensures { log.new.records ≡ log.old.records ++ added ∷ [] }
+{
+    match log.push(added) {
+        Ok(()) => {}
+        Err(_) => unreachable!(),
+    }
+}
+
+/// What becomes of a call's writes: they are kept and their keys collected where it commits, and else
+/// undone.
+fn settle<A: Allocator>(
+    store: &mut Store<A>,
+    changed: &mut Changed<A>,
+    notes: Vec<Note<A>, A>,
+    outcome: u8,
+    start: Phase,
+    phase: Phase,
+)
+    requires { length notes.items ≤ room changed.old }
+    ensures versions { (q : Bytes) → versions_in store.new q ≡ (if outcome == COMMITTED then all_kept start phase (map noted_of notes.items) (versions_in store.old) q else all_undone (map noted_of notes.items) (versions_in store.old) q) }
+    ensures collecting { (q : Bytes) → has changed.new.collecting q ≡ (if outcome == COMMITTED then (is_some (first_noted (map noted_of notes.items) q) || has changed.old.collecting q) else has changed.old.collecting q) }
+    ensures frozen { changed.new.frozen ≡ changed.old.frozen }
+{
+    if outcome == COMMITTED {
+        keep_all(store, notes.as_slice(), start, phase);
+        collect(changed, notes.as_slice());
+    } else {
+        undo_all(store, notes);
+    }
+}
+
+fn copy_of_replies<A: Allocator + Clone>(
+    alloc: &A,
+    replies: &[Option<Value<A>>],
+) -> Result<Vec<Option<Value<A>>, A>, NoMemory>
+    ensures { IfOk result (λ copy. copy.items ≡ replies.now) }
+{
+    let mut copy = Vec::with_capacity(alloc.clone()?, replies.len())?;
+    for reply in replies {
+        copy.push_reserved(copy_of_reply(reply)?);
+    }
+    Ok(copy)
+}
+
+fn copy_of_reply<A: Allocator + Clone>(
+    reply: &Option<Value<A>>,
+) -> Result<Option<Value<A>>, NoMemory>
+    ensures { IfOk result (λ copy. copy ≡ reply.now) }
+{
+    match reply {
+        Some(value) => Ok(Some(value.clone()?)),
+        None => Ok(None),
+    }
+}
+
+/// What a finished call is answered.
+#[derive(Debug, Drop)]
+pub struct Answer<A: Allocator> {
+    /// The place of its record in the log.
+    pub place: usize,
+    pub outcome: u8,
+    pub replies: Sequence<Option<Value<A>>, A>,
+}
+
+impl<A: Allocator + Clone> Core<A> {
+    /// The outcome and a copy of the replies, where the call may be answered.
+    fn prepare_finish(&self, session: u16) -> Result<(u8, Vec<Option<Value<A>>, A>), FinishError>
+        ensures refusal { Answers (finish_refusal self.now session) refused.NoMemory result }
+        ensures outcome { IfOk result (λ r. OfOpen self.now session (λ c. r.0 ≡ (front_of self.now c).outcome)) }
+        ensures replies { IfOk result (λ r. OfOpen self.now session (λ c. r.1.items ≡ (front_of self.now c).replies)) }
+    {
+        match call_of(self.calls.as_slice(), usize::from(session)) {
+            Some(call) => match outcome_of(&call.machine) {
+                Some(_) if self.log.is_full() => Err(FinishError::LogFull),
+                Some(outcome) => match copy_of_replies(&self.alloc, call.machine.replies()) {
+                    Ok(replies) => Ok((outcome, replies)),
+                    Err(NoMemory) => Err(FinishError::NoMemory),
+                },
+                None => Err(FinishError::NotReady),
+            },
+            None => Err(FinishError::NotActive),
+        }
+    }
+
+    /// A session's call is answered: it stands in the log from then on, with its outcome and replies.
+    /// Where it commits its writes are kept, and else they are undone; its locks go. With a refusal the
+    /// call is as before, and may be finished later.
+    pub fn finish(&mut self, session: u16) -> Result<Answer<A>, FinishError>
+        ensures finished { OnOk result (OfOpen self.old session (Finishes self.old self.new session)) }
+        ensures answer { IfOk result (λ a. OfOpen self.old session (λ c. IsAnswer self.old c a.place a.outcome a.replies)) }
+        ensures refused { OnErr result (self.new ≡ self.old) }
+        ensures refusal { Answers (finish_refusal self.old session) refused.NoMemory result }
+    {
+        let (outcome, replies) = self.prepare_finish(session)?;
+        let index = usize::from(session);
+        let phase = self.phase;
+        let more = count_notes(self.calls.as_slice(), index);
+        match make_room(&mut self.changed, &mut self.log, more) {
+            Ok(()) => {}
+            Err(NoMemory) => return Err(FinishError::NoMemory),
+        }
+        let place = self.log.len();
+        match taken(&mut self.calls, index) {
+            Some(call) => {
+                let OpenCall {
+                    number,
+                    procedure,
+                    start,
+                    executed: _,
+                    machine,
+                    notes,
+                } = call;
+                let (args, given) = machine.into_parts();
+                let call = Call {
+                    session,
+                    number,
+                    procedure,
+                    args,
+                };
+                settle(
+                    &mut self.store,
+                    &mut self.changed,
+                    notes,
+                    outcome,
+                    start,
+                    phase,
+                );
+                append(&mut self.log, record_of(call, outcome, given));
+                self.locks.release_all(index);
+                self.active.clear(index);
+                self.last[index] = Some(number);
+                Ok(Answer {
+                    place,
+                    outcome,
+                    replies: Sequence::new(replies),
+                })
+            }
+            None => Err(FinishError::NotActive),
+        }
+    }
+}
