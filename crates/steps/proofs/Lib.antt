@@ -20,3 +20,4 @@ pub mod Closed
 pub mod Ready
 pub mod Answered
 pub mod Opened
+pub mod Advanced

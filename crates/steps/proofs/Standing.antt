@@ -8,7 +8,8 @@ use Rattle.procedure.specs.Runs.{Front, at_start}
 use Rattle.procedure.specs.declared.limits.TheConstants.{SESSIONS}
 use Rattle.phase.specs.Phases.{Starts}
 use Rattle.commitlog.specs.Histories as log
-use Rattle.commitlog.specs.Histories.{code_of, Takes, IsAbove}
+use Rattle.commitlog.specs.Histories.{code_of, Takes, IsAbove, IsCyclic, IsLegal, IsOrderly}
+use Rattle.steps.proofs.Promised.{all_schedules}
 use Rattle.commitlog.specs.Records.{Record}
 use Rattle.image.specs.Merges.{table_of}
 use Rattle.locktable.specs.Locks.{mode_of}
@@ -42,6 +43,12 @@ module _ {A : Type 0} where
 
     pub last_is : (s : ℕ) → back.last_number s ok.world.log ≡ log.last_number s c.log.records
     last_is s = sym (last_number-reverse s ok.world.log) ∙ ap (log.last_number s) ok.stands.log
+
+    -- the log is one history
+    pub history : IsLegal c.catalog (table_of c.opening) c.log.records × IsOrderly c.log.records × IsCyclic c.log.records
+    history =
+        let one = (all_schedules c.catalog (table_of c.opening) ok.world ok.run).0 in
+        (subst (IsLegal c.catalog (table_of c.opening)) ok.stands.log one.legal, subst IsOrderly ok.stands.log one.orderly, subst IsCyclic ok.stands.log one.cyclic)
 
     -- where no call is kept, none is open
     pub none_open : (s : ℕ) → call_at c s ≡ None → ok.world.calls s ≡ None

@@ -8,4 +8,5 @@ pub mod Promises
 pub mod CoreViews
 pub mod Refusals
 pub mod Openings
+pub mod Advances
 pub mod CoreFields

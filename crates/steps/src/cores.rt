@@ -1,9 +1,8 @@
 //! The core.
 
-ghost use Rattle.std.specs.Prelude.{◌≡◌, ◌<◌, ◌↔◌, IfOk, IsTrue, length, map, Some, None, option_copied};
-ghost use Rattle.procedure.specs.declared.limits.TheConstants.{SESSIONS};
-ghost use Rattle.commitlog.specs.Histories.{phase_of};
-ghost use Rattle.steps.specs.CoreViews.{open_at};
+ghost use Rattle.std.specs.Prelude.{◌≡◌, length};
+ghost use Rattle.commitlog.specs.Histories.{IsCyclic, IsLegal, IsOrderly, phase_of};
+ghost use Rattle.image.specs.Merges.{table_of};
 
 use crate::calls::OpenCall;
 use commitlog::{Log, Record};
@@ -52,9 +51,13 @@ impl<A: Allocator> Core<A> {
         self.phase
     }
 
-    /// The records of the log, the oldest first.
+    /// The records of the log, the oldest first. They are one history of one thread: calls that were
+    /// run whole, one after another, from the opening.
     pub fn records(&self) -> &[Record<A>]
-        ensures { result.now ≡ self.now.log }
+        ensures value { result.now ≡ self.now.log }
+        ensures legal { IsLegal self.now.catalog (table_of self.now.opening) self.now.log }
+        ensures orderly { IsOrderly self.now.log }
+        ensures cyclic { IsCyclic self.now.log }
     {
         self.log.records()
     }

@@ -16,6 +16,9 @@ mod give_up;
 pub mod laws;
 mod notes;
 mod open;
+mod step;
+#[cfg(test)]
+mod tests;
 
 pub use cores::Core;
 pub use errors::{BeginError, FinishError, NotActive, OpenError};

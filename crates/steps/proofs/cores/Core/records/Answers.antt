@@ -1,0 +1,15 @@
+use Rattle.std.proofs.Common.{subst}
+use Rattle.commitlog.specs.Histories.{IsCyclic, IsLegal, IsOrderly}
+use Rattle.image.specs.Merges.{table_of}
+use Rattle.steps.specs.CoreViews.{CoreView}
+use Rattle.steps.proofs.Standing.{history}
+use Rattle.steps.proofs.cores.Core.records.Goals as goal
+
+pub returns-clause-legal : goal.returns-clause-legal
+returns-clause-legal g c = subst (λ (v : CoreView). IsLegal v.catalog (table_of v.opening) v.log) c.self.view_is (history c.self.inside c.self.invariant).0
+
+pub returns-clause-orderly : goal.returns-clause-orderly
+returns-clause-orderly g c = subst (λ (v : CoreView). IsOrderly v.log) c.self.view_is (history c.self.inside c.self.invariant).1
+
+pub returns-clause-cyclic : goal.returns-clause-cyclic
+returns-clause-cyclic g c = subst (λ (v : CoreView). IsCyclic v.log) c.self.view_is (history c.self.inside c.self.invariant).2
