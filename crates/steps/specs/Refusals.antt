@@ -9,8 +9,6 @@ use Rattle.commitlog.specs.Histories.{last_number}
 use Rattle.commitlog.specs.declared.limits.TheConstants.{RECORDS}
 use Rattle.procedure.specs.Runs.{has_ended}
 use Rattle.steps.specs.CoreViews.{CoreView, Underway, front_of, open_at}
-use Rattle.steps.specs.declared.errors.StepError.{StepError}
-use Rattle.steps.specs.declared.errors.StepError.TheVariants as stepping
 use Rattle.steps.specs.declared.errors.FinishError.{FinishError}
 use Rattle.steps.specs.declared.errors.FinishError.TheVariants as finishing
 use Rattle.steps.specs.declared.errors.OpenError.{OpenError}
@@ -79,10 +77,3 @@ unfinished v (Some c) =
 -- why a call isn't answered, want of memory apart
 abbrev pub finish_refusal : CoreView → (session : ℕ) → Option FinishError
 finish_refusal v session = unfinished v (open_at v session)
-
-abbrev pub step_error_text : StepError → Bytes
-step_error_text stepping.NotActive = codes "not active"
-step_error_text stepping.AlreadyReady = codes "already ready"
-step_error_text stepping.Conflict = codes "conflict"
-step_error_text stepping.TableFull = codes "table full"
-step_error_text stepping.NoMemory = codes "no memory"

@@ -69,6 +69,7 @@ impl<A: Allocator> Core<A> {
         self.store.slots()
     }
 
+    /// The procedures that calls name by their index.
     pub fn catalog(&self) -> &[Procedure<A>]
         ensures { result.now ≡ self.now.catalog }
     {
