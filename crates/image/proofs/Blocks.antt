@@ -27,23 +27,26 @@ at_min f es past k is = elim (cases_lt (length es) 64) [
   | inr many ↦ let long : k ≡ 64 = omega arith in ap (λ n. f n es) long
 ]
 
-cut_take : {X : Type 0} (es : List X) (k : ℕ) → k ≡ min (length es) 64 → take k es ≡ take 64 es
+pub cut_take : {X : Type 0} (es : List X) (k : ℕ) → k ≡ min (length es) 64 → take k es ≡ take 64 es
 cut_take es k is = at_min (λ n l. take n l) es (λ n le. take_all n es le ∙ sym (take_all (length es) es (omega arith))) k is
 
-cut_drop : {X : Type 0} (es : List X) (k : ℕ) → k ≡ min (length es) 64 → drop k es ≡ drop 64 es
+pub cut_drop : {X : Type 0} (es : List X) (k : ℕ) → k ≡ min (length es) 64 → drop k es ≡ drop 64 es
 cut_drop es k is = at_min (λ n l. drop n l) es (λ n le. drop_all n es le ∙ sym (drop_all (length es) es (omega arith))) k is
 
+-- a block that is cut off, and those of the entries that are left
+pub block_split : (before : Bytes) (es b r : List Entry) → 0 < length es → b ≡ take 64 es → r ≡ drop 64 es →
+    blocks_bytes (block_count (length es)) before es ≡ block_bytes before b ++ blocks_bytes (block_count (length r)) (block_digest before b) r
+block_split before es b r some front back =
+    blocks-step before es some ∙ sym (λ i. block_bytes before (front i) ++ blocks_bytes (block_count (length (back i))) (block_digest before (front i)) (back i))
+
 -- one block more is out
-pub block_out : (before d : Bytes) (es b r : List Entry) (k : ℕ) (out new whole : Bytes) → 0 < length es → k ≡ min (length es) 64 → b ≡ take k es → r ≡ drop k es →
+pub block_out : (before d : Bytes) (es b r : List Entry) (out new whole : Bytes) → 0 < length es → b ≡ take 64 es → r ≡ drop 64 es →
     new ≡ out ++ block_bytes before b → d ≡ block_digest before b → out ++ blocks_bytes (block_count (length es)) before es ≡ whole →
     new ++ blocks_bytes (block_count (length r)) d r ≡ whole
-block_out before d es b r k out new whole some is front back written digest all =
-    let b-is : b ≡ take 64 es = front ∙ cut_take es k is in
-    let r-is : r ≡ drop 64 es = back ∙ cut_drop es k is in
-    (λ i. written i ++ blocks_bytes (block_count (length (r-is i))) (digest i) (r-is i))
-    ∙ ap (λ (x : List Entry). (out ++ block_bytes before x) ++ blocks_bytes (block_count (length (drop 64 es))) (block_digest before x) (drop 64 es)) b-is
+block_out before d es b r out new whole some front back written digest all =
+    (λ i. written i ++ blocks_bytes (block_count (length r)) (digest i) r)
     ∙ append_assoc out _ _
-    ∙ ap (λ (x : Bytes). out ++ x) (sym (blocks-step before es some))
+    ∙ ap (λ (x : Bytes). out ++ x) (sym (block_split before es b r some front back))
     ∙ all
 
 pub all_parts : (P : Entry → Type 0) (es b r : List Entry) (k : ℕ) → b ≡ take k es → r ≡ drop k es → AllByRecursion P b → AllByRecursion P r → AllByRecursion P es

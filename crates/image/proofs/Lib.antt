@@ -14,3 +14,6 @@ pub mod Walks
 pub mod HeaderBytes
 pub mod Spellings
 pub mod ReadAnswers
+pub mod Rooms
+pub mod Goings
+pub mod Arrivals

@@ -10,3 +10,4 @@ pub mod Readings
 pub mod Laws
 pub mod Headers
 pub mod Texts
+pub mod Streams

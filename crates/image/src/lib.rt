@@ -19,6 +19,9 @@ pub mod merges;
 pub mod reading;
 pub mod sealing;
 #[cfg(test)]
+mod stream_tests;
+pub mod streams;
+#[cfg(test)]
 mod tests;
 
 pub use entries::Entry;
@@ -28,3 +31,4 @@ pub use images::{Image, Kind, OpeningError};
 pub use merges::{MergeError, merge};
 pub use reading::read_image;
 pub use sealing::{seal, seal_v1};
+pub use streams::{ReadFromError, WriteError, read_from, seal_to};

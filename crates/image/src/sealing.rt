@@ -1,6 +1,7 @@
 //! Images as bytes.
 
-ghost use Rattle.std.specs.Prelude.{◌≡◌, ◌↔◌, ◌++◌, ◌≤◌, Err, IfOk, IfSome, IsTrue, OnOk, length};
+ghost use Rattle.std.specs.Prelude.{◌≡◌, ◌↔◌, ◌++◌, ◌≤◌, ◌<◌, ◌+◌, Err, IfOk, IfSome, IsTrue, OnErr, OnOk, drop, length, take};
+ghost use Rattle.std.specs.Vec.{vec_capacity, vec_len};
 ghost use Rattle.std.specs.List.{All, AllByRecursion};
 ghost use Rattle.byteorder.specs.Endian.{big_bytes};
 ghost use Rattle.sha2.specs.Sha256.{sha256};
@@ -25,7 +26,9 @@ pub const FIRST: [u8; 8] = *b"CALCIMG1";
 pub const SECOND: [u8; 8] = *b"CALCIMG2";
 
 fn write_u16<A: Allocator>(out: &mut Vec<u8, A>, number: u16) -> Result<(), NoMemory>
-    ensures { OnOk result (out.new.items ≡ out.old.items ++ big_bytes 2 number) }
+    ensures bytes { OnOk result (out.new.items ≡ out.old.items ++ big_bytes 2 number) }
+    ensures capacity { vec_capacity out.old ≤ vec_capacity out.new }
+    ensures full { OnErr result (vec_capacity out.old < vec_len out.old + 2) }
 {
     let mut bytes = [0u8; 2];
     BigEndian::write_u16(&mut bytes, number);
@@ -33,7 +36,8 @@ fn write_u16<A: Allocator>(out: &mut Vec<u8, A>, number: u16) -> Result<(), NoMe
 }
 
 fn write_u32<A: Allocator>(out: &mut Vec<u8, A>, number: u32) -> Result<(), NoMemory>
-    ensures { OnOk result (out.new.items ≡ out.old.items ++ big_bytes 4 number) }
+    ensures bytes { OnOk result (out.new.items ≡ out.old.items ++ big_bytes 4 number) }
+    ensures capacity { vec_capacity out.old ≤ vec_capacity out.new }
 {
     let mut bytes = [0u8; 4];
     BigEndian::write_u32(&mut bytes, number);
@@ -41,7 +45,8 @@ fn write_u32<A: Allocator>(out: &mut Vec<u8, A>, number: u32) -> Result<(), NoMe
 }
 
 fn write_u64<A: Allocator>(out: &mut Vec<u8, A>, number: u64) -> Result<(), NoMemory>
-    ensures { OnOk result (out.new.items ≡ out.old.items ++ big_bytes 8 number) }
+    ensures bytes { OnOk result (out.new.items ≡ out.old.items ++ big_bytes 8 number) }
+    ensures capacity { vec_capacity out.old ≤ vec_capacity out.new }
 {
     let mut bytes = [0u8; 8];
     BigEndian::write_u64(&mut bytes, number);
@@ -54,6 +59,8 @@ fn write_entry<A: Allocator, B: Allocator>(
 ) -> Result<(), NoMemory>
     ensures bytes { OnOk result (out.new.items ≡ out.old.items ++ entry_bytes entry.now) }
     ensures fits { OnOk result (IsWithin VALUE_BYTES entry.now) }
+    ensures capacity { vec_capacity out.old ≤ vec_capacity out.new }
+    ensures full { OnErr result (vec_capacity out.old < vec_len out.old + length (entry_bytes entry.now)) }
 {
     let key = entry.key.as_bytes();
     out.push(key.len() as u8)?;
@@ -76,6 +83,8 @@ fn write_entries<A: Allocator, B: Allocator>(
 ) -> Result<(), NoMemory>
     ensures bytes { OnOk result (out.new.items ≡ out.old.items ++ entries_bytes entries.now) }
     ensures fits { OnOk result (AllByRecursion (IsWithin VALUE_BYTES) entries.now) }
+    ensures capacity { vec_capacity out.old ≤ vec_capacity out.new }
+    ensures full { OnErr result (vec_capacity out.old < vec_len out.old + length (entries_bytes entries.now)) }
 {
     for entry in entries {
         write_entry(out, entry)?;
@@ -100,6 +109,7 @@ fn write_header<A: Allocator, B: Allocator>(
 ) -> Result<(), NoMemory>
     ensures bytes { OnOk result (out.new.items ≡ out.old.items ++ header_bytes magic.now image.now) }
     ensures fits { OnOk result (HasNumbers image.now) }
+    ensures capacity { vec_capacity out.old ≤ vec_capacity out.new }
 {
     out.extend_from_slice(magic)?;
     out.push(kind_byte(image.kind()))?;
@@ -110,13 +120,14 @@ fn write_header<A: Allocator, B: Allocator>(
 }
 
 /// The header of version 2 and its digest, which is handed back.
-fn write_signed_header<A: Allocator, B: Allocator>(
+pub(crate) fn write_signed_header<A: Allocator, B: Allocator>(
     out: &mut Vec<u8, B>,
     image: &Image<A>,
 ) -> Result<[u8; 32], NoMemory>
     ensures bytes { OnOk result (out.new.items ≡ out.old.items ++ signed (header_bytes SECOND image.now)) }
     ensures digest { IfOk result (λ d. d ≡ sha256 (header_bytes SECOND image.now)) }
     ensures fits { OnOk result (HasNumbers image.now) }
+    ensures capacity { vec_capacity out.old ≤ vec_capacity out.new }
 {
     let start = out.len();
     write_header(out, &SECOND, image)?;
@@ -126,7 +137,7 @@ fn write_signed_header<A: Allocator, B: Allocator>(
 }
 
 /// A block of entries and the digest behind it, which is handed back.
-fn write_block<A: Allocator, B: Allocator>(
+pub(crate) fn write_block<A: Allocator, B: Allocator>(
     out: &mut Vec<u8, B>,
     before: &[u8; 32],
     entries: &[Entry<A>],
@@ -134,6 +145,8 @@ fn write_block<A: Allocator, B: Allocator>(
     ensures bytes { OnOk result (out.new.items ≡ out.old.items ++ block_bytes before.now entries.now) }
     ensures digest { IfOk result (λ d. d ≡ block_digest before.now entries.now) }
     ensures fits { OnOk result (AllByRecursion (IsWithin VALUE_BYTES) entries.now) }
+    ensures capacity { vec_capacity out.old ≤ vec_capacity out.new }
+    ensures full { OnErr result (vec_capacity out.old < vec_len out.old + length (entries_bytes entries.now) + 32) }
 {
     let start = out.len();
     write_entries(out, entries)?;
@@ -143,6 +156,17 @@ fn write_block<A: Allocator, B: Allocator>(
     let digest = hasher.finalize();
     out.extend_from_slice(&digest)?;
     Ok(digest)
+}
+
+/// The entries of the first block, and those after it.
+#[tactic(auto, using(crate::proofs::Blocks::cut_take, crate::proofs::Blocks::cut_drop))]
+pub(crate) fn first_block<A: Allocator>(entries: &[Entry<A>]) -> (&[Entry<A>], &[Entry<A>])
+    ensures block { result.0.now ≡ take BLOCK entries.now }
+    ensures after { result.1.now ≡ drop BLOCK entries.now }
+    ensures few { length result.0.now ≤ BLOCK }
+    ensures fewer { 0 < length entries.now → length result.1.now < length entries.now }
+{
+    entries.split_at(entries.len().min(BLOCK))
 }
 
 fn write_blocks<A: Allocator, B: Allocator>(
@@ -156,7 +180,7 @@ fn write_blocks<A: Allocator, B: Allocator>(
     let mut digest = before;
     let mut rest = entries;
     while !rest.is_empty() {
-        let (block, after) = rest.split_at(rest.len().min(BLOCK));
+        let (block, after) = first_block(rest);
         digest = write_block(out, &digest, block)?;
         rest = after;
     }

@@ -9,8 +9,8 @@ loop-rest-preserved g c =
     let es = c.loop-rest.rest.now in
     record {
       bytes =
-          block_out c.loop-rest.digest c.in_ok-digest.digest es c.split_at.result.0.now c.split_at.result.1.now c.min.result c.loop-rest.out.items c.write_block.new.out.items (c.args.out.now.items ++ blocks_bytes (block_count (length c.args.entries.now)) c.args.before c.args.entries.now)
-          (search rules) c.min.ensures c.split_at.ensures.front c.split_at.ensures.back c.in_ok-digest.ensures.bytes c.in_ok-digest.ensures.digest c.loop-rest.invariant.bytes;
+          block_out c.loop-rest.digest c.in_ok-digest.digest es c.first_block.result.0.now c.first_block.result.1.now c.loop-rest.out.items c.write_block.new.out.items (c.args.out.now.items ++ blocks_bytes (block_count (length c.args.entries.now)) c.args.before c.args.entries.now)
+          (search rules) c.first_block.ensures.block c.first_block.ensures.after c.in_ok-digest.ensures.bytes c.in_ok-digest.ensures.digest c.loop-rest.invariant.bytes;
       fits = λ rest.
-          c.loop-rest.invariant.fits (all_parts (IsWithin VALUE_BYTES) es c.split_at.result.0.now c.split_at.result.1.now c.min.result c.split_at.ensures.front c.split_at.ensures.back c.in_ok-digest.ensures.fits rest);
+          c.loop-rest.invariant.fits (all_parts (IsWithin VALUE_BYTES) es c.first_block.result.0.now c.first_block.result.1.now 64 c.first_block.ensures.block c.first_block.ensures.after c.in_ok-digest.ensures.fits rest);
     }
