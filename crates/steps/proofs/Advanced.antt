@@ -1,18 +1,18 @@
 -- One instruction of a call, as it is kept and as the machine has it.
-use Rattle.std.proofs.Common.{◌≡◌, ◌≢◌, ℕ, zero, suc, ◌+◌, ◌-◌, ◌<◌, ◌≤◌, ◌⊎◌, arith, Bool, true, false, cond, List, [], ◌∷◌, ◌++◌, map, length, Option, Some, None, option_map, refl, sym, ap, ◌∙◌, subst, inl, inr}
+use Rattle.std.proofs.Common.{◌≡◌, ℕ, zero, suc, ◌+◌, ◌-◌, ◌<◌, ◌⊎◌, arith, Bool, true, false, cond, List, [], ◌∷◌, ◌++◌, map, length, Option, Some, None, refl, sym, ap, ◌∙◌, inl, inr}
 use Rattle.std.specs.Option.{option_or}
 use Rattle.std.proofs.lemmas.List.{map-append}
 use Rattle.procedure.specs.Bytes.{Bytes, Cell, same}
-use Rattle.procedure.proofs.Base.{keys, same_refl}
-use Rattle.procedure.proofs.Ending.{fed_ended, next_touch-progress, whole_ended}
+use Rattle.procedure.proofs.Base.{keys}
+use Rattle.procedure.proofs.Ending.{fed_ended, whole_ended}
 use Rattle.procedure.proofs.Fronts.{effect-becomes}
-use Rattle.procedure.specs.Needs.{Touch, Nothing, Reads, Writes, becomes_of, touch_of}
+use Rattle.procedure.specs.Needs.{Touch, Nothing, Reads, Writes, becomes_of}
 use Rattle.procedure.specs.Procedures.{Instruction}
-use Rattle.procedure.specs.Runs.{Front, Progress, becomes_at, fed, front, has_ended, need_at, next_becomes, next_need, next_touch, seen_at}
+use Rattle.procedure.specs.Runs.{Front, becomes_at, front, has_ended, need_at, next_becomes, next_need, next_touch, seen_at}
 use Rattle.procedure.specs.Table.{Table}
 use Rattle.phase.specs.declared.phases.Phase.{Phase}
-use Rattle.steps.specs.Edits.{Noted, first_noted, noted_of}
-use Rattle.steps.specs.World.{Version, Versions, found, live_of, note, noted, wrote, wrote_key}
+use Rattle.steps.specs.Edits.{first_noted, noted_of}
+use Rattle.steps.specs.World.{Versions, found, live_of, note, noted, wrote, wrote_key}
 use Rattle.steps.specs.declared.notes.Note.{Note}
 use Rattle.steps.proofs.Edited.{first_push}
 

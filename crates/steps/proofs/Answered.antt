@@ -5,36 +5,41 @@ use Rattle.std.proofs.lemmas.List.{get_or-set_same, map-set}
 use Rattle.std.proofs.lemmas.Option.{slice_get_within}
 use Rattle.std.proofs.lemmas.Bool.{cases_eq, eqb-true, eq-eqb, ne_eqb}
 use Rattle.procedure.specs.Bytes.{Bytes, Cell}
-use Rattle.procedure.specs.Catalogs.{IsLawful, catalog_fault, procedure_fault}
+use Rattle.procedure.specs.Catalogs.{IsLawful, procedure_fault}
 use Rattle.procedure.specs.declared.catalogs.CatalogError.TheVariants.{BadArgument}
 use Rattle.phase.specs.declared.phases.Phase.{Phase}
 use Rattle.procedure.specs.Procedures.{Procedure}
-use Rattle.procedure.specs.Runs.{Front, Progress, IsOutcome, ended, front, has_ended, is_nil}
+use Rattle.procedure.specs.Runs.{Front, Progress, IsOutcome, front, has_ended, is_nil}
 use Rattle.procedure.specs.Table.{change_at, value_at}
-use Rattle.procedure.specs.declared.limits.TheConstants.{SESSIONS, PROCEDURES, ARGUMENTS}
+use Rattle.procedure.specs.declared.limits.TheConstants.{SESSIONS, ARGUMENTS}
 use Rattle.procedure.specs.declared.outcomes.TheConstants.{COMMITTED}
 use Rattle.procedure.proofs.Bounds.{keeps_limits}
 use Rattle.procedure.proofs.Faults.{at_most, code_within, neither, no_first_fault, procedures_lawful, procedures_within}
 use Rattle.phase.specs.Phases.{Starts}
-use Rattle.commitlog.specs.Histories.{Takes, answered_after, code_at, code_of, last_number, phase_of}
+use Rattle.commitlog.specs.Histories.{after as table_after_all, Takes, code_at, last_number}
 use Rattle.commitlog.specs.Logs.{Log}
 use Rattle.commitlog.specs.Records.{IsInRange, Record, Call}
-use Rattle.commitlog.specs.declared.limits.TheConstants.{REPLIES}
 use Rattle.commitlog.proofs.Histories.{last_number-push}
 use Rattle.locktable.specs.Locks.{Locks, without_locks}
 use Rattle.record_store.specs.ChangedSets.{ChangedSets, has}
-use Rattle.record_store.specs.Stores.{Slots}
-use Rattle.steps.specs.CoreFields.{IsCore, IsOpen, call_at, underway, view_of}
-use Rattle.steps.specs.CoreViews.{CoreView, Underway, OfOpen, Finishes, answer_of, front_of, open_at, replaced, settled, table_now}
+use Rattle.record_store.specs.Stores.{Slots, records}
+use Rattle.std.specs.FinMap as fin
+use Rattle.image.specs.Merges.{table_of}
+use Rattle.record_store.specs.declared.limits.TheConstants as stored
+use Rattle.steps.specs.CoreFields.{IsCore, IsOpen, SameCall, call_at, underway, view_of}
+use Rattle.steps.specs.CoreViews.{CoreView, IsSmall, Underway, OfOpen, Finishes, front_of, open_at, replaced, table_now}
 use Rattle.steps.specs.Edits.{all_kept, all_undone, first_noted, noted_of, versions_in}
-use Rattle.steps.specs.Good.{MayFinish, undo_of}
-use Rattle.steps.specs.World.{Open, World, Runs, Goes, Commits, Aborts, Version, abort, answer, commit, initial, kept_key, more, now, undone_key}
+use Rattle.steps.specs.Good.{undo_of}
+use Rattle.steps.specs.World.{Open, World, Goes, Commits, Aborts, Version, abort, answer, commit, kept_key, more, now, undone_key}
 use Rattle.steps.specs.declared.calls.OpenCall.{OpenCall}
 use Rattle.steps.specs.declared.cores.Core.TheInside.{Inside}
 use Rattle.steps.proofs.Closed.{closed_calls, closed_locks, closed_starts, is_under, notes_are, within}
 use Rattle.steps.proofs.Forward.{reverse_push}
-use Rattle.steps.proofs.Ready.{open_is, progress_is}
+use Rattle.steps.proofs.Ready.{progress_is}
 use Rattle.steps.proofs.Standing.{good, phase_is, some_open}
+use Rattle.steps.proofs.Small.{beyond, now_as, small_more, small_now}
+use Rattle.steps.proofs.Events.{initial_good}
+use Rattle.steps.proofs.Whole.{runs_good}
 
 -- what is noted of a change tells that there is one
 kept_by : (start phase : Phase) (x : Option Cell) (y : Cell) (v : Option Version) → kept_key start phase (undo_of x y) v ≡ kept_key start phase x v
@@ -141,26 +146,50 @@ module _ {A : Type 0} (c : Inside A) (ok : IsCore c) (s : ℕ) (call : OpenCall 
       (log_is : log.records ≡ c.log.records ++ record_made o ∷ []) (calls_are : calls.items ≡ slice_set c.calls.items s None)
       (versions : (q : Bytes) → versions_in store q ≡ cond (o == COMMITTED) (all_kept call.start c.phase (map noted_of call.notes.items) (versions_in c.store) q) (all_undone (map noted_of call.notes.items) (versions_in c.store) q))
       (collecting : (q : Bytes) → has changed.collecting q ≡ cond (o == COMMITTED) (is_some (first_noted (map noted_of call.notes.items) q) || has c.changed.collecting q) (has c.changed.collecting q))
-      (frozen : changed.frozen ≡ c.changed.frozen) (locks_are : locks ≡ without_locks c.locks s) (starts : active ≡ slice_set c.active s None) (last_is : last.items ≡ slice_set c.last.items s (Some call.number)) where
+      (frozen : changed.frozen ≡ c.changed.frozen) (locks_are : locks ≡ without_locks c.locks s) (starts : active ≡ slice_set c.active s None) (last_is : last.items ≡ slice_set c.last.items s (Some call.number)) (most : records store ≤ stored.RECORDS) where
     ended_here : has_ended opened.0.machine ≡ true
     ended_here = ap (λ (p : Progress). is_nil p.rest) opened.2.progress ∙ ends
+
+    -- the table after the answer is small
+    smaller : (w : World) → Goes ok.world w → w.catalog ≡ c.catalog → w.opening ≡ table_of c.opening → reverse w.log ≡ log.records → ((t : ℕ) → SameCall (slice_index_or calls.items t None) (w.calls t)) → ((q : Bytes) → w.versions q ≡ versions_in store q) → IsSmall c.catalog (table_of c.opening) log.records
+    smaller w g e f h same versions =
+        let after = runs_good (more ok.run g) (initial_good c.catalog (table_of c.opening)) in
+        let le = small_now w after (length calls.items) (beyond calls.items w.calls same) store versions most in
+        let is = now_as w c.catalog (table_of c.opening) log.records e f h in
+        subst (IsSmall c.catalog (table_of c.opening)) (sym log_is)
+        (small_more c.catalog (table_of c.opening) c.log.records (record_made o) ok.small
+        (subst (λ l. fin.len (table_after_all c.catalog (table_of c.opening) l) ≤ stored.RECORDS) log_is (subst (λ t. fin.len t ≤ stored.RECORDS) is le)))
+
+    committed_versions : (o == COMMITTED) ≡ true → (q : Bytes) → (commit ok.world s opened.0).versions q ≡ versions_in store q
+    committed_versions so q =
+        ap (λ p. kept_key p ok.world.phase (change_at opened.0.machine.changes q) (ok.world.versions q)) opened.2.start
+        ∙ ap (λ p. kept_key call.start p (change_at opened.0.machine.changes q) (ok.world.versions q)) ok.stands.phase
+        ∙ ap (kept_key call.start c.phase (change_at opened.0.machine.changes q)) (ok.stands.versions q)
+        ∙ sym (kept_by call.start c.phase (change_at opened.0.machine.changes q) (value_at (now ok.world) q) (versions_in c.store q))
+        ∙ ap (λ x. kept_key call.start c.phase x (versions_in c.store q)) (sym (noted_as q))
+        ∙ sym (versions q ∙ ap (λ b. cond b (all_kept call.start c.phase (map noted_of call.notes.items) (versions_in c.store) q) (all_undone (map noted_of call.notes.items) (versions_in c.store) q)) so)
+
+    aborted_versions : (o == COMMITTED) ≡ false → (q : Bytes) → (abort ok.world s opened.0).versions q ≡ versions_in store q
+    aborted_versions not_so q =
+        ap (λ u. undone_key u (ok.world.versions q)) (opened.2.notes q) ∙ ap (undone_key (first_noted (map noted_of call.notes.items) q)) (ok.stands.versions q)
+        ∙ sym (versions q ∙ ap (λ b. cond b (all_kept call.start c.phase (map noted_of call.notes.items) (versions_in c.store) q) (all_undone (map noted_of call.notes.items) (versions_in c.store) q)) not_so)
+
+    commits_here : (o == COMMITTED) ≡ true → Goes ok.world (commit ok.world s opened.0)
+    commits_here so = Commits s opened.0 opened.1 ended_here (outcome_here ∙ sym outcome ∙ eqb-true o COMMITTED so)
+
+    aborts_here : (o == COMMITTED) ≡ false → Goes ok.world (abort ok.world s opened.0)
+    aborts_here not_so = Aborts s opened.0 opened.1 ended_here (ap (λ n. n == 0) (outcome_here ∙ sym outcome) ∙ not_so)
 
     committed_core : (o == COMMITTED) ≡ true → IsCore (after_answer log store locks changed calls active last)
     committed_core so = record {
       world = commit ok.world s opened.0;
-      run = more ok.run (Commits s opened.0 opened.1 ended_here (outcome_here ∙ sym outcome ∙ eqb-true o COMMITTED so));
+      run = more ok.run (commits_here so);
       stands = record {
         catalog = ok.stands.catalog;
         opening = ok.stands.opening;
         log = longer_log o outcome log.records log_is;
         calls = closed_calls c ok s (within c ok s call is) calls.items calls_are;
-        versions = λ q.
-            ap (λ p. kept_key p ok.world.phase (change_at opened.0.machine.changes q) (ok.world.versions q)) opened.2.start
-            ∙ ap (λ p. kept_key call.start p (change_at opened.0.machine.changes q) (ok.world.versions q)) ok.stands.phase
-            ∙ ap (kept_key call.start c.phase (change_at opened.0.machine.changes q)) (ok.stands.versions q)
-            ∙ sym (kept_by call.start c.phase (change_at opened.0.machine.changes q) (value_at (now ok.world) q) (versions_in c.store q))
-            ∙ ap (λ x. kept_key call.start c.phase x (versions_in c.store q)) (sym (noted_as q))
-            ∙ sym (versions q ∙ ap (λ b. cond b (all_kept call.start c.phase (map noted_of call.notes.items) (versions_in c.store) q) (all_undone (map noted_of call.notes.items) (versions_in c.store) q)) so);
+        versions = committed_versions so;
         collecting = λ q.
             ap (λ b. is_some (change_at opened.0.machine.changes q) || b) (ok.stands.collecting q)
             ∙ ap (λ b. b || has c.changed.collecting q) (sym (some_by (change_at opened.0.machine.changes q) (value_at (now ok.world) q)) ∙ ap is_some (sym (noted_as q)))
@@ -170,6 +199,7 @@ module _ {A : Type 0} (c : Inside A) (ok : IsCore c) (s : ℕ) (call : OpenCall 
         phase = ok.stands.phase;
       };
       lawful = ok.lawful;
+      small = smaller (commit ok.world s opened.0) (commits_here so) ok.stands.catalog ok.stands.opening (longer_log o outcome log.records log_is) (closed_calls c ok s (within c ok s call is) calls.items calls_are) (committed_versions so);
       sessions = ap length calls_are ∙ length-set c.calls.items s None ∙ ok.sessions;
       tables = ap length locks_are ∙ length-set c.locks s _ ∙ ok.tables;
       starts = closed_starts c ok s calls.items active calls_are starts;
@@ -180,21 +210,20 @@ module _ {A : Type 0} (c : Inside A) (ok : IsCore c) (s : ℕ) (call : OpenCall 
     aborted_core : (o == COMMITTED) ≡ false → IsCore (after_answer log store locks changed calls active last)
     aborted_core not_so = record {
       world = abort ok.world s opened.0;
-      run = more ok.run (Aborts s opened.0 opened.1 ended_here (ap (λ n. n == 0) (outcome_here ∙ sym outcome) ∙ not_so));
+      run = more ok.run (aborts_here not_so);
       stands = record {
         catalog = ok.stands.catalog;
         opening = ok.stands.opening;
         log = longer_log o outcome log.records log_is;
         calls = closed_calls c ok s (within c ok s call is) calls.items calls_are;
-        versions = λ q.
-            ap (λ u. undone_key u (ok.world.versions q)) (opened.2.notes q) ∙ ap (undone_key (first_noted (map noted_of call.notes.items) q)) (ok.stands.versions q)
-            ∙ sym (versions q ∙ ap (λ b. cond b (all_kept call.start c.phase (map noted_of call.notes.items) (versions_in c.store) q) (all_undone (map noted_of call.notes.items) (versions_in c.store) q)) not_so);
+        versions = aborted_versions not_so;
         collecting = λ q. ok.stands.collecting q ∙ sym (collecting q ∙ ap (λ b. cond b (is_some (first_noted (map noted_of call.notes.items) q) || has c.changed.collecting q) (has c.changed.collecting q)) not_so);
         frozen = λ q. ok.stands.frozen q ∙ ap (λ f. has f q) (sym frozen);
         locks = closed_locks c ok s (subst (λ n. s < n) (ok.sessions ∙ sym ok.tables) (within c ok s call is)) locks locks_are;
         phase = ok.stands.phase;
       };
       lawful = ok.lawful;
+      small = smaller (abort ok.world s opened.0) (aborts_here not_so) ok.stands.catalog ok.stands.opening (longer_log o outcome log.records log_is) (closed_calls c ok s (within c ok s call is) calls.items calls_are) (aborted_versions not_so);
       sessions = ap length calls_are ∙ length-set c.calls.items s None ∙ ok.sessions;
       tables = ap length locks_are ∙ length-set c.locks s _ ∙ ok.tables;
       starts = closed_starts c ok s calls.items active calls_are starts;
@@ -209,8 +238,8 @@ module _ {A : Type 0} (c : Inside A) (ok : IsCore c) (s : ℕ) (call : OpenCall 
         by true e = committed_core e
         by false e = aborted_core e
 
-    pub finish_view : (v : CoreView) → view_of c ≡ v → OfOpen v s (Finishes v (view_of (after_answer log store locks changed calls active last)) s)
-    finish_view v same u there =
+    pub finish_view : length store ≡ length c.store → (v : CoreView) → view_of c ≡ v → OfOpen v s (Finishes v (view_of (after_answer log store locks changed calls active last)) s)
+    finish_view slots v same u there =
         let which : underway call ≡ u = is_under c ok s call is calls store locks active u (ap (λ (w : CoreView). open_at w s) same ∙ there) in
         subst (λ (w : CoreView). Finishes w (view_of (after_answer log store locks changed calls active last)) s u) same
         (subst (λ (x : Underway). Finishes (view_of c) (view_of (after_answer log store locks changed calls active last)) s x) which
@@ -218,6 +247,7 @@ module _ {A : Type 0} (c : Inside A) (ok : IsCore c) (s : ℕ) (call : OpenCall 
           same = record { catalog = refl; opening = refl; calls = ap (map (option_map underway)) calls_are ∙ map-set (option_map underway) c.calls.items s None };
           log = log_is ∙ ap (λ (n : ℕ). c.log.records ++ Call s call.number call.procedure call.machine.args n call.machine.progress.replies ∷ []) outcome
               ∙ ap (λ (p : Progress). c.log.records ++ Call s call.number call.procedure call.machine.args p.outcome p.replies ∷ []) progress_here;
+          slots = slots;
           versions = λ q.
               versions q
               ∙ ap (λ n. cond (n == COMMITTED) (all_kept call.start c.phase (map noted_of call.notes.items) (versions_in c.store) q) (all_undone (map noted_of call.notes.items) (versions_in c.store) q)) (outcome ∙ ap (λ (p : Progress). p.outcome) progress_here)

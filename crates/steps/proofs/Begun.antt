@@ -1,5 +1,5 @@
 -- A core after a begin.
-use Rattle.std.proofs.Common.{◌≡◌, ℕ, ◌<◌, List, [], Option, Some, None, Vec, map, option_map, length, slice_get, slice_set, sym, ap, ◌∙◌, subst}
+use Rattle.std.proofs.Common.{◌≡◌, ℕ, List, [], Option, Some, Vec, map, option_map, length, slice_get, slice_set, sym, ap, ◌∙◌, subst}
 use Rattle.std.proofs.lemmas.List.{map-set}
 use Rattle.procedure.specs.Bytes.{Bytes}
 use Rattle.procedure.specs.Runs.{at_start}

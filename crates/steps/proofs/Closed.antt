@@ -1,12 +1,10 @@
 -- A core after a call's end: the session's call is gone, with its locks.
-use Rattle.std.proofs.Common.{◌≡◌, ◌≢◌, ℕ, zero, suc, ◌<◌, arith, Bool, cond, List, [], ◌∷◌, Option, Some, None, IsSome, Vec, map, option_map, length, inl, inr, slice_set, slice_index_or, refl, sym, ap, ◌∙◌, subst, length-set, get_or-set_other}
-use Rattle.std.specs.Prelude.{◌==◌}
+use Rattle.std.proofs.Common.{◌≡◌, ℕ, zero, suc, ◌<◌, arith, cond, List, [], ◌∷◌, Option, Some, None, IsSome, Vec, map, option_map, length, inl, inr, slice_set, slice_index_or, refl, sym, ap, ◌∙◌, subst, length-set, get_or-set_other}
 use Rattle.std.proofs.lemmas.List.{map-set, get_or-set_same}
 use Rattle.std.proofs.lemmas.Bool.{cases_eq, ne_eqb, eq-eqb}
-use Rattle.procedure.specs.Bytes.{Bytes, Cell}
+use Rattle.procedure.specs.Bytes.{Bytes}
 use Rattle.procedure.specs.Table.{change_at, value_at}
 use Rattle.procedure.specs.Runs.{Front, front}
-use Rattle.procedure.specs.declared.limits.TheConstants.{SESSIONS}
 use Rattle.phase.specs.Phases.{Starts}
 use Rattle.commitlog.specs.Histories.{code_of}
 use Rattle.locktable.specs.Locks.{Locks, mode_of, without_locks}
@@ -16,7 +14,7 @@ use Rattle.steps.specs.CoreFields.{IsCore, IsOpen, SameCall, call_at, held, star
 use Rattle.steps.specs.CoreViews.{CoreView, Underway, GivesUp, front_of, table_now, open_at, replaced}
 use Rattle.steps.specs.Edits.{all_undone, first_noted, noted_of, versions_in}
 use Rattle.steps.specs.Good.{undo_of}
-use Rattle.steps.specs.World.{Open, Calls, World, Gives_up, more, put, give_up, now, undone_key}
+use Rattle.steps.specs.World.{Open, Gives_up, more, put, give_up, now, undone_key}
 use Rattle.steps.specs.declared.calls.OpenCall.{OpenCall}
 use Rattle.steps.specs.declared.cores.Core.TheInside.{Inside}
 use Rattle.steps.proofs.Refused.{shown_at}
@@ -82,6 +80,7 @@ module _ {A : Type 0} (c : Inside A) (ok : IsCore c) (s : ℕ) where
         phase = ok.stands.phase;
       };
       lawful = ok.lawful;
+      small = ok.small;
       sessions = ap length e ∙ length-set c.calls.items s None ∙ ok.sessions;
       tables = ap length f ∙ length-set c.locks s _ ∙ ok.tables;
       starts = closed_starts calls.items active e h;
@@ -111,12 +110,13 @@ module _ {A : Type 0} (c : Inside A) (ok : IsCore c) (s : ℕ) where
     pub is_under : (u : Underway) → open_at (view_of c) s ≡ Some u → underway call ≡ u
     is_under u e = let there : Some (underway call) ≡ Some u = sym (shown_at c s ∙ ap (option_map underway) is) ∙ e in cc
 
-    pub give_up_view : (v : CoreView) → view_of c ≡ v → calls.items ≡ slice_set c.calls.items s None → ((q : Bytes) → versions_in store q ≡ all_undone (map noted_of call.notes.items) (versions_in c.store) q) → GivesUp v (view_of (gave_up calls store locks active)) s
-    give_up_view v same e versions =
+    pub give_up_view : (v : CoreView) → view_of c ≡ v → calls.items ≡ slice_set c.calls.items s None → ((q : Bytes) → versions_in store q ≡ all_undone (map noted_of call.notes.items) (versions_in c.store) q) → length store ≡ length c.store → GivesUp v (view_of (gave_up calls store locks active)) s
+    give_up_view v same e versions slots =
         subst (λ (w : CoreView). GivesUp w (view_of (gave_up calls store locks active)) s) same
         (record {
           same = record { catalog = refl; opening = refl; calls = ap (map (option_map underway)) e ∙ map-set (option_map underway) c.calls.items s None };
           log = refl;
+          slots = slots;
           versions = λ u there q. versions q ∙ ap (λ x. undone_key x (versions_in c.store q)) (notes_are q ∙ ap (λ w. replaced (view_of c) w q) (is_under u there));
         })
 

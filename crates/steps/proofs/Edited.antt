@@ -1,8 +1,8 @@
 -- Edits of a store's records, as changes of the versions by key.
-use Rattle.std.proofs.Common.{◌≡◌, ◌≢◌, ℕ, zero, suc, ◌+◌, ◌≤◌, arith, Bool, true, false, cond, List, [], ◌∷◌, ◌++◌, map, Option, Some, None, is_some, option_and_then, ◌||◌, true≢false, refl, sym, ap, ◌∙◌, subst, inl, inr, slice_set}
+use Rattle.std.proofs.Common.{◌≡◌, ℕ, zero, suc, ◌+◌, ◌≤◌, arith, Bool, true, false, cond, List, [], ◌∷◌, ◌++◌, Option, Some, None, is_some, option_and_then, ◌||◌, true≢false, refl, sym, ap, ◌∙◌, inl, inr, slice_set}
 use Rattle.std.specs.Option.{option_map, option_or}
 use Rattle.std.specs.FinMap as fin
-use Rattle.std.specs.Cmp.Lexicographic.{slice_cmp, nat_list_cmp_total, nat_list_eq_equiv, pointwise, texts_ties}
+use Rattle.std.specs.Cmp.Lexicographic.{nat_list_cmp_total}
 use Rattle.record_store.specs.ChangedSets.{KeySet, has, count, with_key}
 use Rattle.record_store.proofs.ChangedKeys.{has-with_key}
 use Rattle.procedure.specs.Bytes.{Bytes, Cell, same}
@@ -11,11 +11,10 @@ use Rattle.phase.specs.declared.phases.Phase.{Phase}
 use Rattle.phase.specs.declared.phases.Phase.TheVariants.{Rest, Prepare, Resolve, Capture, Complete}
 use Rattle.record_store.specs.Stores.{Record, Slots, IsOnce, Finds, changed, record_at, live_at, new_record, with_record, with_live, with_stable, with_copy, with_available}
 use Rattle.record_store.specs.Versions as stored
-use Rattle.record_store.proofs.Versions.{version_of-changed, version_of-created, version_none, version_found, record_found, finds_record, once_created, created_here}
+use Rattle.record_store.proofs.Versions.{version_of-changed, version_of-created, version_none, version_found, record_found, finds_record, once_created}
 use Rattle.record_store.proofs.Making.{at_with_here}
-use Rattle.record_store.specs.declared.records.Stable.{Stable}
-use Rattle.record_store.specs.declared.records.Stable.TheVariants.{Empty, Was}
-use Rattle.steps.specs.World.{Version, Versions, copied, copied_late, undone, undone_key, kept, kept_key, made, wrote, live_of, is_late}
+use Rattle.record_store.specs.declared.records.Stable.TheVariants.{Empty}
+use Rattle.steps.specs.World.{Version, Versions, copied, copied_late, undone, undone_key, kept, kept_key, wrote, live_of, is_late}
 use Rattle.steps.specs.Edits.{cell_of, stable_of, shown, versions_in, with_version, edited, written, Noted, first_noted, all_undone, all_kept, undone_version, is_available, available_at}
 
 pub changed_twice : (f g : Record → Record) (slots : Slots) (i : ℕ) → changed g (changed f slots i) i ≡ changed (λ r. g (f r)) slots i

@@ -8,11 +8,11 @@ pub mod Events
 pub mod Transitions
 pub mod Phases
 pub mod Whole
-pub mod Tied
 pub mod Forward
 pub mod Cuts
 pub mod Promised
 pub mod Edited
+pub mod Small
 pub mod Standing
 pub mod Refused
 pub mod Begun
@@ -21,3 +21,7 @@ pub mod Ready
 pub mod Answered
 pub mod Opened
 pub mod Advanced
+pub mod Granted
+pub mod Barred
+pub mod Moved
+pub mod Driven

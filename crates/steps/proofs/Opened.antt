@@ -1,12 +1,12 @@
 -- A core as it is opened.
-use Rattle.std.proofs.Common.{◌≡◌, ◌≢◌, ℕ, zero, suc, ◌<◌, Bool, true, false, cond, ◌&&◌, List, [], ◌∷◌, T, IsSome, IsTrue, is_some, true≢false, Option, Some, None, Vec, map, option_map, length, replicate, reverse, slice_index_or, refl, sym, ap, ◌∙◌, subst, inl, inr}
+use Rattle.std.proofs.Common.{◌≡◌, ℕ, zero, suc, Bool, true, false, cond, ◌&&◌, List, [], ◌∷◌, T, IsSome, is_some, true≢false, Option, Some, None, map, option_map, length, replicate, slice_index_or, refl, sym, ap, ◌∙◌, subst, inl, inr, ◌≤◌}
 use Rattle.std.specs.FinMap.{find, is_sorted, get-from_entries}
 use Rattle.std.specs.FinMap.Entries.{below_all}
 use Rattle.std.specs.Cmp.Lexicographic.{nat_list_cmp_total}
-use Rattle.std.specs.List.{All, AllByRecursion}
+use Rattle.std.specs.List.{AllByRecursion}
 use Rattle.std.specs.Ordering.{eq_by_cmp}
 use Rattle.procedure.specs.Bytes.{Bytes, Cell, same}
-use Rattle.procedure.specs.Table.{KeyMap, value_at, change_at, changed_or, no_table, merged}
+use Rattle.procedure.specs.Table.{KeyMap, value_at, change_at, changed_or, no_table}
 use Rattle.procedure.proofs.Base.{keys, same_refl, value_at-merged, value_at-no_table}
 use Rattle.phase.specs.declared.phases.Phase.TheVariants.{Rest}
 use Rattle.std.specs.Prelude.{◌==◌}
@@ -27,6 +27,12 @@ use Rattle.std.proofs.lemmas.List.{length-replicate}
 use Rattle.std.proofs.lemmas.List.Elements.{recursion_from_All}
 use Rattle.steps.specs.CoreFields.{IsCore, SameCall, call_at, start_of, underway, view_of}
 use Rattle.record_store.proofs.Versions.{version_of-new}
+use Rattle.record_store.specs.Stores.{records}
+use Rattle.record_store.specs.declared.limits.TheConstants.{RECORDS}
+use Rattle.steps.specs.CoreViews.{IsSmall}
+use Rattle.steps.proofs.Events.{initial_good}
+use Rattle.steps.proofs.Small.{small_none, small_now}
+use Rattle.steps.specs.Backwards.{after}
 use Rattle.steps.specs.Edits.{shown, versions_in}
 use Rattle.steps.specs.Openings.{IsOpened, is_opening, opened_with, with_opened}
 use Rattle.steps.specs.World.{Version, Versions, Runs, initial, opened, wrote}
@@ -124,7 +130,7 @@ empty_map = fin.empty
 abbrev empty_maps : (V : Type 0) → ℕ → List (KeyMap V)
 empty_maps V n = replicate n empty_map
 
-map-replicate : {X Y : Type 0} (f : X → Y) (n : ℕ) (x : X) → map f (replicate n x) ≡ replicate n (f x)
+pub map-replicate : {X Y : Type 0} (f : X → Y) (n : ℕ) (x : X) → map f (replicate n x) ≡ replicate n (f x)
 map-replicate f zero x = refl
 map-replicate f (suc n) x = ap (λ l. f x ∷ l) (map-replicate f n x)
 
@@ -141,9 +147,14 @@ none_held (suc n) (suc s) q = none_held n s q
 
 module _ {A : Type 0} (c : Inside A) (lawful : catalog_fault c.catalog ≡ None) (log : c.log.records ≡ []) (calls : c.calls.items ≡ replicate SESSIONS None) (last : c.last.items ≡ replicate SESSIONS None)
     (locks : c.locks ≡ replicate SESSIONS fin.empty) (active : c.active ≡ replicate SESSIONS None) (collecting : c.changed.collecting ≡ no_keys) (frozen : c.changed.frozen ≡ no_keys) (phase : c.phase ≡ Rest)
-    (versions : (q : Bytes) → versions_in c.store q ≡ opened (value_at (table_of c.opening) q)) where
+    (versions : (q : Bytes) → versions_in c.store q ≡ opened (value_at (table_of c.opening) q)) (most : records c.store ≤ RECORDS) where
   free : (s : ℕ) → SameCall (call_at c s) None
   free s = subst (λ (o : Option (OpenCall A)). SameCall o None) (sym (ap (λ (l : List (Option (OpenCall A))). slice_index_or l s None) calls ∙ none_kept SESSIONS s)) tt
+
+  begun_small : fin.len (table_of c.opening) ≤ RECORDS
+  unfolding initial after
+  begun_small =
+      small_now (initial c.catalog (table_of c.opening)) (initial_good c.catalog (table_of c.opening)) 0 (λ s le. refl) c.store (λ q. sym (versions q)) most
 
   pub opened_core : IsCore c
   unfolding initial last_number
@@ -162,6 +173,7 @@ module _ {A : Type 0} (c : Inside A) (lawful : catalog_fault c.catalog ≡ None)
       phase = sym phase;
     };
     lawful = lawful;
+    small = subst (IsSmall c.catalog (table_of c.opening)) (sym log) (small_none c.catalog (table_of c.opening) begun_small);
     sessions = ap length calls ∙ count_nothings (OpenCall A) SESSIONS;
     tables = ap length locks ∙ count_empty_maps Mode SESSIONS;
     starts = active ∙ sym (ap (map (start_of {A = A})) calls ∙ map-replicate (start_of {A = A}) SESSIONS None);

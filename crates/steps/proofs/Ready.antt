@@ -1,25 +1,25 @@
 -- Whether a call has ended, by its machine as it is kept and by its run alone.
-use Rattle.std.proofs.Common.{◌≡◌, ℕ, Bool, true, false, not, cond, List, Option, Some, None, option_map, refl, sym, ap, ◌∙◌, subst}
+use Rattle.std.proofs.Common.{◌≡◌, ℕ, Bool, true, false, not, cond, List, Some, None, option_map, refl, sym, ap, ◌∙◌, subst}
 use Rattle.std.specs.Prelude.{◌==◌, length}
 use Rattle.std.specs.Option.{option_or}
 use Rattle.procedure.specs.Bytes.{Cell}
-use Rattle.procedure.specs.Runs.{Front, Progress, ended, has_ended, is_nil}
+use Rattle.procedure.specs.Runs.{Front, Progress, ended, is_nil}
 use Rattle.commitlog.specs.Histories.{last_number}
 use Rattle.commitlog.specs.Logs.{Log}
 use Rattle.record_store.specs.ChangedSets.{ChangedSets, has}
 use Rattle.commitlog.specs.declared.limits.TheConstants.{RECORDS}
 use Rattle.steps.specs.CoreFields.{IsCore, call_at, underway, view_of}
-use Rattle.steps.specs.CoreViews.{CoreView, Underway, OfOpen, front_of, open_at}
+use Rattle.image.specs.Merges.{table_of}
+use Rattle.steps.specs.CoreViews.{CoreView, IsSmall, Underway, OfOpen, front_of, open_at}
 use Rattle.steps.specs.Refusals.{unless, unfinished, finish_refusal}
 use Rattle.steps.specs.declared.calls.OpenCall.{OpenCall}
 use Rattle.steps.specs.declared.cores.Core.TheInside.{Inside}
-use Rattle.steps.specs.declared.errors.FinishError.{FinishError}
 use Rattle.steps.specs.declared.errors.FinishError.TheVariants as refused
 use Rattle.steps.proofs.Closed.{machine_is}
 use Rattle.steps.proofs.Refused.{shown_at}
 use Rattle.steps.proofs.Standing.{some_open}
 
-going : (p : Progress) → ended p ≡ None → is_nil p.rest ≡ false
+pub going : (p : Progress) → ended p ≡ None → is_nil p.rest ≡ false
 going p e = by (is_nil p.rest) e
   where
     by : (b : Bool) → cond b (Some p.outcome) None ≡ None → b ≡ false
@@ -107,6 +107,7 @@ module _ {A : Type 0} where
       phase = ok.stands.phase;
     };
     lawful = ok.lawful;
+    small = subst (IsSmall c.catalog (table_of c.opening)) (sym e) ok.small;
     sessions = ok.sessions;
     tables = ok.tables;
     starts = ok.starts;

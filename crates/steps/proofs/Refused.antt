@@ -1,6 +1,5 @@
 -- What holds where a call isn't refused.
-use Rattle.std.proofs.Common.{◌≡◌, ℕ, ◌<◌, Bool, true, false, ◌&&◌, List, [], ◌∷◌, length, map, Option, Some, None, IsTrue, is_some, is_none, nat_lt, nat_le, option_map, slice_get, slice_index_or, refl, sym, ap, ◌∙◌}
-use Rattle.std.specs.Prelude.{◌==◌}
+use Rattle.std.proofs.Common.{◌≡◌, ℕ, ◌<◌, Bool, true, false, List, length, Option, Some, None, IsTrue, is_some, is_none, nat_lt, option_map, slice_get, refl, sym, ◌∙◌}
 use Rattle.std.specs.Option.{option_or}
 use Rattle.std.proofs.lemmas.Bool.{ltb-true, eqb-true}
 use Rattle.std.proofs.Math.ListN.{get_or-map}

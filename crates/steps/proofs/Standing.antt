@@ -1,24 +1,22 @@
 -- What a core's fields say, by the machine's state for which they stand.
-use Rattle.std.proofs.Common.{◌≡◌, ◌≢◌, ℕ, suc, ◌<◌, Bool, true, false, cond, not, List, [], ◌∷◌, ◌++◌, length, map, reverse, Option, Some, None, option_map, slice_get, slice_set, slice_index_or, Vec, inl, inr, refl, sym, ap, ◌∙◌, subst, length-set, get_or-set_other}
-use Rattle.std.specs.Prelude.{◌==◌}
+use Rattle.std.proofs.Common.{◌≡◌, ℕ, ◌<◌, cond, List, [], length, map, reverse, Option, Some, None, slice_get, slice_set, slice_index_or, Vec, inl, inr, refl, sym, ap, ◌∙◌, subst, length-set, get_or-set_other}
 use Rattle.std.proofs.lemmas.List.{map-set, get_or-set_same}
 use Rattle.std.proofs.lemmas.Bool.{cases_eq, ne_eqb, eq-eqb}
 use Rattle.procedure.specs.Bytes.{Bytes}
-use Rattle.procedure.specs.Runs.{Front, at_start}
+use Rattle.procedure.specs.Runs.{at_start}
 use Rattle.procedure.specs.declared.limits.TheConstants.{SESSIONS}
 use Rattle.phase.specs.Phases.{Starts}
 use Rattle.commitlog.specs.Histories as log
 use Rattle.commitlog.specs.Histories.{code_of, Takes, IsAbove, IsCyclic, IsLegal, IsOrderly}
 use Rattle.steps.proofs.Promised.{all_schedules}
-use Rattle.commitlog.specs.Records.{Record}
 use Rattle.image.specs.Merges.{table_of}
 use Rattle.locktable.specs.Locks.{mode_of}
 use Rattle.steps.specs.Backwards as back
-use Rattle.steps.specs.CoreFields.{IsCore, IsOpen, SameCall, Stands, call_at, held, start_of, underway, view_of}
-use Rattle.steps.specs.CoreViews.{CoreView, Underway, front_of, table_now}
+use Rattle.steps.specs.CoreFields.{IsCore, IsOpen, SameCall, call_at, held, start_of, view_of}
+use Rattle.steps.specs.CoreViews.{table_now}
 use Rattle.steps.specs.Edits.{first_noted, noted_of}
 use Rattle.steps.specs.Good.{Good}
-use Rattle.steps.specs.World.{Open, Calls, World, Runs, Goes, Begins, MayBegin, initial, more, none, now, put, begin, begun}
+use Rattle.steps.specs.World.{Open, World, Begins, MayBegin, more, now, begin, begun}
 use Rattle.steps.specs.declared.calls.OpenCall.{OpenCall}
 use Rattle.steps.specs.declared.cores.Core.TheInside.{Inside}
 use Rattle.steps.proofs.Events.{initial_good}
@@ -146,6 +144,7 @@ module _ {A : Type 0} where
         phase = ok.stands.phase;
       };
       lawful = ok.lawful;
+      small = ok.small;
       sessions = ap length e ∙ length-set c.calls.items s (Some call) ∙ ok.sessions;
       tables = ok.tables;
       starts = f ∙ ap (λ l. slice_set l s (Some c.phase)) ok.starts ∙ ap (slice_set (map start_of c.calls.items) s) (ap (λ p. Some p) (sym n.start)) ∙ sym (map-set start_of c.calls.items s (Some call)) ∙ ap (map start_of) (sym e);

@@ -1,5 +1,5 @@
 -- One instruction of an open call, as it is kept.
-use Rattle.std.specs.Prelude.{◌≡◌, ◌+◌, ℕ, cond, map, Option, Some}
+use Rattle.std.specs.Prelude.{◌≡◌, ◌+◌, Bool, ◌&&◌, cond, map, Option, Some}
 use Rattle.procedure.specs.Bytes.{Bytes, Cell, same}
 use Rattle.procedure.specs.Needs.{Touch, Nothing, Reads, Writes, becomes_of, touch_of}
 use Rattle.procedure.specs.declared.needs.Access.{Access}
@@ -8,6 +8,7 @@ use Rattle.procedure.specs.Runs.{Execution, advanced, next_need}
 use Rattle.phase.specs.declared.phases.Phase.{Phase}
 use Rattle.record_store.specs.Stores.{Slots}
 use Rattle.steps.specs.Edits.{first_noted, noted_of, versions_in}
+use Rattle.steps.specs.Refusals.{is_full, makes_record}
 use Rattle.steps.specs.World.{found, live_of, note, noted, wrote, wrote_key}
 use Rattle.steps.specs.declared.calls.OpenCall.{OpenCall}
 
@@ -27,6 +28,10 @@ seen_in slots m = found (versions_in slots) (touch_in m)
 
 abbrev pub becomes_in : Slots → Execution → Option Cell
 becomes_in slots m = becomes_of (next_need m.args m.progress) (seen_in slots m)
+
+-- must the next instruction make a record, where the store is full?
+abbrev pub lacks_place : Slots → Execution → Bool
+lacks_place slots m = is_full slots && makes_record (versions_in slots) (touch_in m) (becomes_in slots m)
 
 abbrev pub fed_with : Cell → Execution → Execution
 fed_with x m = record m { progress = advanced m.args m.progress x }

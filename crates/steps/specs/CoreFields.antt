@@ -11,9 +11,9 @@ use Rattle.locktable.specs.declared.modes.Mode.{Mode}
 use Rattle.locktable.specs.declared.modes.Mode.TheVariants.{Shared, Exclusive}
 use Rattle.locktable.specs.Locks.{mode_of}
 use Rattle.record_store.specs.ChangedSets.{has}
-use Rattle.steps.specs.CoreViews.{CoreView, Underway}
+use Rattle.steps.specs.CoreViews.{CoreView, IsSmall, Underway}
 use Rattle.steps.specs.Edits.{first_noted, noted_of, versions_in}
-use Rattle.steps.specs.World.{Open, Calls, World, Runs, initial}
+use Rattle.steps.specs.World.{Open, World, Runs, initial}
 use Rattle.steps.specs.declared.calls.OpenCall.{OpenCall}
 use Rattle.steps.specs.declared.notes.Note.{Note}
 use Rattle.steps.specs.declared.cores.Core.TheInside.{Inside}
@@ -83,6 +83,7 @@ module _ {A : Type 0} where
     pub run : Runs (initial c.catalog (table_of c.opening)) world
     pub stands : Stands c world
     pub lawful : catalog_fault c.catalog ≡ None
+    pub small : IsSmall c.catalog (table_of c.opening) c.log.records
     pub sessions : length c.calls.items ≡ SESSIONS
     pub tables : length c.locks ≡ SESSIONS
     pub starts : c.active ≡ map start_of c.calls.items

@@ -1,10 +1,10 @@
 -- What contracts see of a core.
-use Rattle.std.specs.Prelude.{ℕ, suc, ◌≡◌, ◌==◌, if◌then◌else◌, ◌++◌, ◌∷◌, [], length, List, Option, Some, None, slice_index_or, slice_set, map}
-use Rattle.std.specs.Option.{option_map}
+use Rattle.std.specs.Prelude.{ℕ, suc, ◌≡◌, ◌==◌, Bool, false, ◌||◌, if◌then◌else◌, ◌++◌, ◌∷◌, [], length, List, Option, Some, None, slice_index_or, slice_set, take, ◌≤◌}
+use Rattle.std.specs.FinMap as fin
 use Rattle.procedure.specs.Bytes.{Bytes, Cell}
 use Rattle.procedure.specs.Procedures.{Procedure}
-use Rattle.procedure.specs.Runs.{Front, front, next_touch}
-use Rattle.procedure.specs.Needs.{Touch}
+use Rattle.procedure.specs.Runs.{Front, front, has_ended, next_becomes, next_touch, touched}
+use Rattle.procedure.specs.Needs.{Touch, Nothing, Reads, Writes}
 use Rattle.procedure.specs.Table.{Table, change_at, value_at}
 use Rattle.phase.specs.declared.phases.Phase.{Phase}
 use Rattle.commitlog.specs.Records.{Record, Call}
@@ -13,9 +13,12 @@ use Rattle.commitlog.specs.Histories.{after, code_of, phase_of}
 use Rattle.image.specs.Images.{Image}
 use Rattle.image.specs.Merges.{table_of}
 use Rattle.record_store.specs.Stores.{Slots}
+use Rattle.record_store.specs.declared.limits.TheConstants.{RECORDS}
 use Rattle.steps.specs.Edits.{versions_in}
 use Rattle.steps.specs.Good.{undo_of}
-use Rattle.steps.specs.World.{Version, kept_key, undone_key}
+use Rattle.steps.specs.World.{Version, found, kept_key, undone_key, wrote_key}
+use Rattle.steps.specs.declared.step.Stepped.{Stepped}
+use Rattle.steps.specs.declared.step.Stepped.TheVariants.{Ran, Ready}
 
 -- a session's open call, and how many of its instructions were executed
 pub record Underway : Type 0 where
@@ -31,6 +34,10 @@ pub record CoreView : Type 0 where
   pub log : List Record
   pub calls : List (Option Underway)
   pub slots : Slots
+
+-- at most 100,000 keys after every front of a log
+abbrev pub IsSmall : List Procedure → Table → List Record → Type 0
+IsSmall c t l = (k : ℕ) → fin.len (after c t (take k l)) ≤ RECORDS
 
 -- a session's open call, if there is one
 abbrev pub open_at : CoreView → ℕ → Option Underway
@@ -52,6 +59,28 @@ front_of v c = front (code_of v.catalog c.procedure) c.args (table_now v) c.coun
 abbrev pub touch_next : CoreView → Underway → Touch
 touch_next v c = next_touch c.args (front_of v c)
 
+-- what the record of that key holds, and what it becomes
+abbrev pub seen_next : CoreView → Underway → Cell
+seen_next v c = found (versions_in v.slots) (touch_next v c)
+
+abbrev pub becomes_next : CoreView → Underway → Option Cell
+becomes_next v c = next_becomes c.args (front_of v c) (seen_next v c)
+
+-- has an open call touched the key, and not both by reading?
+abbrev pub bars : CoreView → Touch → Underway → Bool
+bars v Nothing d = false
+bars v (Reads k) d = (front_of v d).writes k
+bars v (Writes k) d = touched (front_of v d) k
+
+abbrev pub any_open : (Underway → Bool) → List (Option Underway) → Bool
+any_open p [] = false
+any_open p (None ∷ calls) = any_open p calls
+any_open p (Some c ∷ calls) = p c || any_open p calls
+
+-- does the call of another session bar a session's touch?
+abbrev pub is_barred : CoreView → (session : ℕ) → Touch → Bool
+is_barred v session n = any_open (bars v n) (slice_set v.calls session None)
+
 -- what a call's changes replaced: what the table holds at the keys that it changed
 abbrev pub replaced : CoreView → Underway → Bytes → Option Cell
 replaced v c q = undo_of (change_at (front_of v c).changes q) (value_at (table_now v) q)
@@ -66,10 +95,25 @@ pub record SameBut (old new : CoreView) (s : ℕ) (call : Option Underway) : Typ
 abbrev pub OfOpen : CoreView → ℕ → (Underway → Type 0) → Type 0
 OfOpen v s P = (c : Underway) → open_at v s ≡ Some c → P c
 
+-- the call, after one instruction more
+abbrev pub one_more : Underway → Underway
+one_more c = record c { count = suc c.count }
+
+-- one instruction more of the call: the key that it touches becomes what it makes of it
+pub record Steps (old new : CoreView) (s : ℕ) (c : Underway) : Type 0 where
+  pub same : SameBut old new s (Some (one_more c))
+  pub log : new.log ≡ old.log
+  pub versions : (q : Bytes) → versions_in new.slots q ≡ wrote_key (phase_of old.log) c.start (touch_next old c) (becomes_next old c) (versions_in old.slots) q
+
+-- how a step is answered: whether instructions are left
+abbrev pub stepped_as : Front → Stepped
+stepped_as f = if has_ended f then Ready else Ran
+
 -- the call is gone, and the keys that it changed hold what they held before it
 pub record GivesUp (old new : CoreView) (s : ℕ) : Type 0 where
   pub same : SameBut old new s None
   pub log : new.log ≡ old.log
+  pub slots : length new.slots ≡ length old.slots
   pub versions : OfOpen old s (λ c. (q : Bytes) → versions_in new.slots q ≡ undone_key (replaced old c q) (versions_in old.slots q))
 
 -- what is said in the log of a call that ended
@@ -87,6 +131,7 @@ settled v c q =
 pub record Finishes (old new : CoreView) (s : ℕ) (c : Underway) : Type 0 where
   pub same : SameBut old new s None
   pub log : new.log ≡ old.log ++ answer_of old s c ∷ []
+  pub slots : length new.slots ≡ length old.slots
   pub versions : (q : Bytes) → versions_in new.slots q ≡ settled old c q
 
 -- the answer gives the place of that record, and what it says

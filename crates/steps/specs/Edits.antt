@@ -1,5 +1,5 @@
 -- How the records of a store stand for the machine's versions, and what writes and undoing do to them.
-use Rattle.std.specs.Prelude.{ℕ, ◌==◌, Bool, true, false, cond, List, [], ◌∷◌, map, Option, Some, None, is_some}
+use Rattle.std.specs.Prelude.{ℕ, Bool, false, cond, List, [], ◌∷◌, Option, Some, None, is_some}
 use Rattle.std.specs.Option.{option_map}
 use Rattle.procedure.specs.Bytes.{Bytes, Cell, same}
 use Rattle.phase.specs.declared.phases.Phase.{Phase}
@@ -7,7 +7,7 @@ use Rattle.record_store.specs.Stores.{Record, Slots, record_at}
 use Rattle.record_store.specs.Versions as stored
 use Rattle.record_store.specs.declared.records.Stable.{Stable}
 use Rattle.record_store.specs.declared.records.Stable.TheVariants.{Empty, Was}
-use Rattle.steps.specs.World.{Version, Versions, copied, undone, undone_key, kept, kept_key, made, wrote}
+use Rattle.steps.specs.World.{Version, Versions, copied, undone, undone_key, kept_key}
 use Rattle.steps.specs.declared.notes.Note.{Note}
 
 abbrev pub cell_of : Stable Cell → Option Cell

@@ -3,10 +3,13 @@ pub mod World
 pub mod Edits
 pub mod Good
 pub mod Headline
-pub mod Ties
 pub mod Promises
 pub mod CoreViews
 pub mod Refusals
 pub mod Openings
+pub mod Locked
 pub mod Advances
 pub mod CoreFields
+pub mod Versions
+pub mod Schedules
+pub mod Drives

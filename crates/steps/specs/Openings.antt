@@ -1,5 +1,5 @@
 -- What a core holds when it was opened.
-use Rattle.std.specs.Prelude.{◌≡◌, ℕ, ◌==◌, Bool, false, cond, ◌&&◌, List, [], ◌∷◌, replicate, Option, Some, None}
+use Rattle.std.specs.Prelude.{◌≡◌, ◌==◌, Bool, cond, ◌&&◌, List, [], ◌∷◌, replicate, Some, None}
 use Rattle.procedure.specs.Bytes.{Bytes, same}
 use Rattle.procedure.specs.Procedures.{Procedure}
 use Rattle.procedure.specs.Table.{value_at}

@@ -2,13 +2,20 @@
 use Rattle.std.specs.Prelude.{◌≡◌, ◌⊎◌, ℕ, ◌==◌, Bool, true, false, not, ◌&&◌, nat_lt, nat_le, List, [], ◌∷◌, length, slice_get, codes, Option, Some, None, is_some, is_none, Ok, Err}
 use Rattle.std.specs.declared.result.Result.{Result}
 use Rattle.std.specs.Option.{option_or}
-use Rattle.procedure.specs.Bytes.{Bytes}
+use Rattle.procedure.specs.Bytes.{Bytes, Cell}
 use Rattle.procedure.specs.Procedures.{Procedure}
 use Rattle.procedure.specs.declared.limits.TheConstants.{SESSIONS, VALUE_BYTES}
 use Rattle.commitlog.specs.Histories.{last_number}
-use Rattle.commitlog.specs.declared.limits.TheConstants.{RECORDS}
+use Rattle.commitlog.specs.declared.limits.TheConstants as log
 use Rattle.procedure.specs.Runs.{has_ended}
-use Rattle.steps.specs.CoreViews.{CoreView, Underway, front_of, open_at}
+use Rattle.procedure.specs.Needs.{Touch, Nothing, Reads, Writes}
+use Rattle.record_store.specs.Stores.{Slots, records}
+use Rattle.record_store.specs.declared.limits.TheConstants.{RECORDS}
+use Rattle.steps.specs.CoreViews.{CoreView, Underway, becomes_next, front_of, is_barred, open_at, touch_next}
+use Rattle.steps.specs.Edits.{versions_in}
+use Rattle.steps.specs.World.{Versions}
+use Rattle.steps.specs.declared.errors.StepError.{StepError}
+use Rattle.steps.specs.declared.errors.StepError.TheVariants as stepping
 use Rattle.steps.specs.declared.errors.FinishError.{FinishError}
 use Rattle.steps.specs.declared.errors.FinishError.TheVariants as finishing
 use Rattle.steps.specs.declared.errors.OpenError.{OpenError}
@@ -62,6 +69,33 @@ abbrev pub Answers : {X E : Type 0} → Option E → E → Result X E → Type 0
 Answers refusal no_memory (Ok x) = refusal ≡ None
 Answers refusal no_memory (Err e) = (refusal ≡ Some e) ⊎ ((refusal ≡ None) × (e ≡ no_memory))
 
+abbrev pub step_error_text : StepError → Bytes
+step_error_text stepping.NotActive = codes "not active"
+step_error_text stepping.AlreadyReady = codes "already ready"
+step_error_text stepping.Conflict = codes "conflict"
+step_error_text stepping.TableFull = codes "table full"
+step_error_text stepping.NoMemory = codes "no memory"
+
+-- must a touch, by which a key becomes this, make a record of the key?
+abbrev pub makes_record : Versions → Touch → Option Cell → Bool
+makes_record vs Nothing x = false
+makes_record vs (Reads k) x = false
+makes_record vs (Writes k) x = is_some x && is_none (vs k)
+
+abbrev pub is_full : Slots → Bool
+is_full slots = nat_le RECORDS (records slots)
+
+abbrev pub unstepped : CoreView → (session : ℕ) → Option Underway → Option StepError
+unstepped v session None = Some stepping.NotActive
+unstepped v session (Some c) =
+    option_or (unless (not (has_ended (front_of v c))) stepping.AlreadyReady)
+    (option_or (unless (not (is_barred v session (touch_next v c))) stepping.Conflict)
+    (unless (not (is_full v.slots && makes_record (versions_in v.slots) (touch_next v c) (becomes_next v c))) stepping.TableFull))
+
+-- why an instruction isn't executed, want of memory apart
+abbrev pub step_refusal : CoreView → (session : ℕ) → Option StepError
+step_refusal v session = unstepped v session (open_at v session)
+
 abbrev pub finish_error_text : FinishError → Bytes
 finish_error_text finishing.NotActive = codes "not active"
 finish_error_text finishing.NotReady = codes "not ready"
@@ -72,7 +106,7 @@ abbrev pub unfinished : CoreView → Option Underway → Option FinishError
 unfinished v None = Some finishing.NotActive
 unfinished v (Some c) =
     option_or (unless (has_ended (front_of v c)) finishing.NotReady)
-    (unless (not (length v.log == RECORDS)) finishing.LogFull)
+    (unless (not (length v.log == log.RECORDS)) finishing.LogFull)
 
 -- why a call isn't answered, want of memory apart
 abbrev pub finish_refusal : CoreView → (session : ℕ) → Option FinishError

@@ -3,6 +3,7 @@
 ghost use Rattle.std.specs.Prelude.{◌≡◌, length};
 ghost use Rattle.commitlog.specs.Histories.{IsCyclic, IsLegal, IsOrderly, phase_of};
 ghost use Rattle.image.specs.Merges.{table_of};
+ghost use Rattle.steps.specs.CoreViews.{IsSmall};
 
 use crate::calls::OpenCall;
 use commitlog::{Log, Record};
@@ -52,12 +53,13 @@ impl<A: Allocator> Core<A> {
     }
 
     /// The records of the log, the oldest first. They are one history of one thread: calls that were
-    /// run whole, one after another, from the opening.
+    /// run whole, one after another, from the opening, each leaving at most 100,000 keys.
     pub fn records(&self) -> &[Record<A>]
         ensures value { result.now ≡ self.now.log }
         ensures legal { IsLegal self.now.catalog (table_of self.now.opening) self.now.log }
         ensures orderly { IsOrderly self.now.log }
         ensures cyclic { IsCyclic self.now.log }
+        ensures small { IsSmall self.now.catalog (table_of self.now.opening) self.now.log }
     {
         self.log.records()
     }

@@ -140,6 +140,16 @@ pub(crate) fn found<'a, A: Allocator>(store: &'a Store<A>, key: &Key) -> Option<
     }
 }
 
+/// Whether a key has a record.
+pub(crate) fn has_record<A: Allocator>(store: &Store<A>, key: &Key) -> bool
+    ensures { result ≡ is_some (versions_in store.now key.now) }
+{
+    match store.find(key) {
+        Some(_) => true,
+        None => false,
+    }
+}
+
 fn undo_record<A: Allocator>(store: &mut Store<A>, slot: usize, before: Option<Value<A>>)
     ensures { store.new ≡ changed (edited (undone_version before)) store.old slot }
 {
@@ -152,7 +162,8 @@ fn undo_record<A: Allocator>(store: &mut Store<A>, slot: usize, before: Option<V
 
 /// The live version before a write comes back.
 fn undo_note<A: Allocator>(store: &mut Store<A>, note: Note<A>)
-    ensures { (q : Bytes) → versions_in store.new q ≡ cond (same q note.key) (undone_key (Some note.before) (versions_in store.old note.key)) (versions_in store.old q) }
+    ensures slots { length store.new ≡ length store.old }
+    ensures versions { (q : Bytes) → versions_in store.new q ≡ cond (same q note.key) (undone_key (Some note.before) (versions_in store.old note.key)) (versions_in store.old q) }
 {
     match store.find(&note.key) {
         Some(slot) => undo_record(store, slot, note.before),
@@ -162,7 +173,8 @@ fn undo_note<A: Allocator>(store: &mut Store<A>, note: Note<A>)
 
 /// All writes of a call are undone, the last one first.
 pub(crate) fn undo_all<A: Allocator>(store: &mut Store<A>, mut notes: Vec<Note<A>, A>)
-    ensures { (q : Bytes) → versions_in store.new q ≡ all_undone (map noted_of notes.items) (versions_in store.old) q }
+    ensures slots { length store.new ≡ length store.old }
+    ensures versions { (q : Bytes) → versions_in store.new q ≡ all_undone (map noted_of notes.items) (versions_in store.old) q }
 {
     while let Some(note) = notes.pop() {
         undo_note(store, note);
@@ -182,7 +194,8 @@ fn keep_record<A: Allocator>(store: &mut Store<A>, slot: usize, start: Phase, ph
 /// A key's write is kept: the status of its record, by the phase in which the call started and that of
 /// now.
 fn keep_key<A: Allocator>(store: &mut Store<A>, key: &Key, start: Phase, phase: Phase)
-    ensures { (q : Bytes) → versions_in store.new q ≡ cond (same q key.now) (kept_key start phase (Some None) (versions_in store.old key.now)) (versions_in store.old q) }
+    ensures slots { length store.new ≡ length store.old }
+    ensures versions { (q : Bytes) → versions_in store.new q ≡ cond (same q key.now) (kept_key start phase (Some None) (versions_in store.old key.now)) (versions_in store.old q) }
 {
     match store.find(key) {
         Some(slot) => keep_record(store, slot, start, phase),
@@ -197,7 +210,8 @@ pub(crate) fn keep_all<A: Allocator>(
     start: Phase,
     phase: Phase,
 )
-    ensures { (q : Bytes) → versions_in store.new q ≡ all_kept start phase (map noted_of notes.now) (versions_in store.old) q }
+    ensures slots { length store.new ≡ length store.old }
+    ensures versions { (q : Bytes) → versions_in store.new q ≡ all_kept start phase (map noted_of notes.now) (versions_in store.old) q }
 {
     for note in notes {
         keep_key(store, &note.key, start, phase);

@@ -32,6 +32,38 @@ pub enum BeginError {
     NoMemory,
 }
 
+/// Why an instruction isn't executed. The first that holds, in this order, is answered.
+#[derive(Clone, Copy, Debug, PartialEq, Eq)]
+pub enum StepError {
+    /// The session has no open call, or is over 63.
+    NotActive,
+    /// The call has no instructions left.
+    AlreadyReady,
+    /// Another session's open call has touched the key, and one of the two touches is to write.
+    Conflict,
+    /// A record must be made of the key, and the store has 100,000.
+    TableFull,
+    NoMemory,
+}
+
+impl fmt::Display for StepError {
+    ghost use Rattle.steps.specs.Refusals.{step_error_text};
+
+    ghost output = { λ e. Some (step_error_text e) };
+
+    fn fmt<W: fmt::Write>(&self, f: &mut fmt::Formatter<W>) -> fmt::Result {
+        f.write_str(match self {
+            StepError::NotActive => "not active",
+            StepError::AlreadyReady => "already ready",
+            StepError::Conflict => "conflict",
+            StepError::TableFull => "table full",
+            StepError::NoMemory => "no memory",
+        })
+    }
+}
+
+impl Error for StepError {}
+
 /// Why a call isn't answered. The first that holds, in this order, is.
 #[derive(Clone, Copy, Debug, PartialEq, Eq)]
 pub enum FinishError {

@@ -9,17 +9,26 @@
 mod begin;
 mod calls;
 pub mod cores;
+pub mod drives;
 mod edits;
 pub mod errors;
 pub mod finish;
 mod give_up;
+mod instructions;
 pub mod laws;
+mod locking;
 mod notes;
 mod open;
-mod step;
+pub mod schedules;
+pub mod step;
 #[cfg(test)]
 mod tests;
+pub mod versions;
 
 pub use cores::Core;
-pub use errors::{BeginError, FinishError, NotActive, OpenError};
+pub use drives::{Run, drive};
+pub use errors::{BeginError, FinishError, NotActive, OpenError, StepError};
 pub use finish::Answer;
+pub use schedules::{Event, Reply};
+pub use step::Stepped;
+pub use versions::Versions;

@@ -91,6 +91,8 @@ fn build<A: Allocator + Copy>(
     let _procedures = catalog.procedures();
     let mut store = Store::new(alloc);
     fill(&mut store, opening.entries())?;
+    // Brings in that the store has at most 100,000 records, and so the table as many keys.
+    let _records = store.len();
     let locks = LockTable::new(alloc)?;
     let calls = free_places(alloc)?;
     let last = no_numbers(alloc)?;

@@ -1,7 +1,6 @@
-use Rattle.std.proofs.Common.{◌≡◌, ◌≤◌, ◌<◌, ℕ, ◌+◌, ◌-◌, Bool, arith, ap, ◌∙◌, sym, subst, List, map, drop, length, is_some, ◌||◌, ◌∷◌}
+use Rattle.std.proofs.Common.{◌≡◌, ◌≤◌, ◌+◌, arith, ap, ◌∙◌, sym, subst, List, map, drop, length, is_some, ◌||◌, ◌∷◌}
 use Rattle.std.proofs.lemmas.List.{drop_more}
-use Rattle.procedure.specs.Bytes.{Bytes}
-use Rattle.record_store.specs.ChangedSets.{ChangedSets, has, count, with_key, room}
+use Rattle.record_store.specs.ChangedSets.{ChangedSets, has, count}
 use Rattle.steps.specs.declared.notes.Note.{Note}
 use Rattle.steps.specs.Edits.{first_noted, noted_of}
 use Rattle.steps.proofs.Edited.{collected_more, count-with_key}

@@ -1,4 +1,4 @@
-use Rattle.std.proofs.Common.{◌≡◌, ◌≤◌, Bool, map, drop, length, is_some, ◌||◌}
+use Rattle.std.proofs.Common.{◌≡◌, ◌≤◌, map, drop, length, is_some, ◌||◌}
 use Rattle.procedure.specs.Bytes.{Bytes}
 use Rattle.record_store.specs.ChangedSets.{has, room}
 use Rattle.steps.specs.Edits.{first_noted, noted_of}

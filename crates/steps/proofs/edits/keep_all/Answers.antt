@@ -1,4 +1,4 @@
-use Rattle.std.proofs.Common.{◌≡◌, ap, ◌∙◌, sym, List, map, drop, ◌∷◌, ◌+◌}
+use Rattle.std.proofs.Common.{ap, ◌∙◌, sym, List, map, drop, ◌∷◌, ◌+◌}
 use Rattle.std.proofs.lemmas.List.{drop_more}
 use Rattle.steps.specs.declared.notes.Note.{Note}
 use Rattle.steps.specs.Edits.{all_kept, noted_of, versions_in}
@@ -6,10 +6,12 @@ use Rattle.steps.proofs.Edited.{kept_more}
 use Rattle.steps.proofs.edits.keep_all.Goals as goal
 
 pub loop-note-preserved : goal.loop-note-preserved
-loop-note-preserved g c q =
+loop-note-preserved g c =
     let i = c.loop-note.note-index in
-    let left : List (Note g.row.A.Denot) = drop (i + 1) c.args.notes.now in
-    kept_more c.args.start c.args.phase (noted_of c.note-item.result) (map noted_of left) (versions_in c.loop-note.store) (versions_in c.keep_key.new.store) q c.keep_key.ensures
-    ∙ ap (λ (l : List (Note g.row.A.Denot)). all_kept c.args.start c.args.phase (map noted_of l) (versions_in c.loop-note.store) q)
-    (ap (λ (n : Note g.row.A.Denot). n ∷ left) c.note-item.is ∙ sym (drop_more c.args.notes.now i c.note-item.result c.loop-note-test.true))
-    ∙ c.loop-note.invariant q
+    let left : List (Note g.row.A.Denot) = drop (i + 1) c.args.notes.now in (
+      λ q. kept_more c.args.start c.args.phase (noted_of c.note-item.result) (map noted_of left) (versions_in c.loop-note.store) (versions_in c.keep_key.new.store) q c.keep_key.ensures.versions
+          ∙ ap (λ (l : List (Note g.row.A.Denot)). all_kept c.args.start c.args.phase (map noted_of l) (versions_in c.loop-note.store) q)
+          (ap (λ (n : Note g.row.A.Denot). n ∷ left) c.note-item.is ∙ sym (drop_more c.args.notes.now i c.note-item.result c.loop-note-test.true))
+          ∙ c.loop-note.invariant.0 q,
+      c.keep_key.ensures.slots ∙ c.loop-note.invariant.1,
+    )

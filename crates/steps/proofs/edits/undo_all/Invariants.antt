@@ -1,4 +1,4 @@
-use Rattle.std.proofs.Common.{◌≡◌, map}
+use Rattle.std.proofs.Common.{◌≡◌, length, map}
 use Rattle.procedure.specs.Bytes.{Bytes}
 use Rattle.steps.specs.Edits.{all_undone, noted_of, versions_in}
 use Rattle.steps.proofs.edits.undo_all.Given as goal
@@ -6,7 +6,8 @@ use Rattle.steps.proofs.edits.undo_all.Given as goal
 -- the writes that are left, undone from here on, end as all of them from the start
 abbrev pub invariant-loop-note : goal.invariant-loop-note
 invariant-loop-note g l =
-    (q : Bytes) → all_undone (map noted_of l.notes.items) (versions_in l.store) q ≡ all_undone (map noted_of l.initial.notes.items) (versions_in l.initial.store) q
+    ((q : Bytes) → all_undone (map noted_of l.notes.items) (versions_in l.store) q ≡ all_undone (map noted_of l.initial.notes.items) (versions_in l.initial.store) q)
+    × (length l.store ≡ length l.initial.store)
 
 abbrev pub decreases-loop-note : goal.decreases-loop-note
 decreases-loop-note g l = goal.left-loop-note g l

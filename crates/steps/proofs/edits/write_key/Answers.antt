@@ -1,9 +1,9 @@
-use Rattle.std.proofs.Common.{◌≡◌, ap, ◌∙◌, sym, subst, None, Some, Option, Bool, IsSome, Err}
+use Rattle.std.proofs.Common.{◌≡◌, ap, ◌∙◌, sym, subst, None, Bool, IsSome, Err}
 use Rattle.record_store.specs.Stores.{Slots, changed, live_at, with_record, new_record}
 use Rattle.procedure.specs.Bytes.{Bytes, Cell}
 use Rattle.record_store.specs.declared.stores.CreateError.{CreateError}
 use Rattle.record_store.specs.declared.stores.CreateError.TheVariants.{TableFull}
-use Rattle.steps.specs.World.{live_of, Version}
+use Rattle.steps.specs.World.{live_of}
 use Rattle.steps.specs.Edits.{versions_in, edited, written}
 use Rattle.steps.proofs.Edited.{found_in, none_in, live_in, live_created, versions_written, versions_made}
 use Rattle.steps.proofs.edits.write_key.Goals as goal

@@ -1,4 +1,4 @@
-use Rattle.std.proofs.Common.{◌≡◌, List, [], ap, ◌∙◌, refl}
+use Rattle.std.proofs.Common.{List, [], ap, ◌∙◌, refl}
 use Rattle.image.specs.Images.{Entry}
 use Rattle.phase.specs.declared.phases.Phase.TheVariants.{Rest}
 use Rattle.record_store.specs.ChangedSets.{ChangedSets}
@@ -16,7 +16,7 @@ invariant_of-result g c =
     c.in_ok-fill.ensures q
     ∙ ap (λ (l : Slots). opened_with (versions_in l) c.entries.result.now q) c.new-store.ensures
     ∙ ap (λ (l : List Entry). opened_with (versions_in []) l q) c.entries.ensures.value
-    ∙ versions_opened c.args.opening c.entries.ensures.lawful c.requires (versions_in []) versions_in-new q)
+    ∙ versions_opened c.args.opening c.entries.ensures.lawful c.requires (versions_in []) versions_in-new q) c.len-records.ensures.most
 
 pub returns : goal.returns
 returns g c =
@@ -38,4 +38,4 @@ returns g c =
     c.in_ok-fill.ensures q
     ∙ ap (λ (l : Slots). opened_with (versions_in l) c.entries.result.now q) c.new-store.ensures
     ∙ ap (λ (l : List Entry). opened_with (versions_in []) l q) c.entries.ensures.value
-    ∙ versions_opened c.args.opening c.entries.ensures.lawful c.requires (versions_in []) versions_in-new q)
+    ∙ versions_opened c.args.opening c.entries.ensures.lawful c.requires (versions_in []) versions_in-new q) c.len-records.ensures.most

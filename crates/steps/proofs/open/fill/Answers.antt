@@ -1,4 +1,4 @@
-use Rattle.std.proofs.Common.{◌≡◌, ◌+◌, ap, ◌∙◌, sym, List, drop, ◌∷◌}
+use Rattle.std.proofs.Common.{◌+◌, ap, ◌∙◌, sym, List, drop, ◌∷◌}
 use Rattle.std.proofs.lemmas.List.{drop_more}
 use Rattle.image.specs.Images.{Entry}
 use Rattle.steps.specs.Edits.{versions_in}

@@ -1,5 +1,4 @@
-use Rattle.std.proofs.Common.{◌≡◌, ℕ, None, Option, arith, replicate, ap, ◌∙◌}
-use Rattle.procedure.specs.declared.limits.TheConstants.{SESSIONS}
+use Rattle.std.proofs.Common.{◌≡◌, None, Option, arith, replicate, ap, ◌∙◌}
 use Rattle.steps.specs.declared.calls.OpenCall.{OpenCall}
 use Rattle.steps.proofs.open.free_places.Goals as goal
 

@@ -1,4 +1,4 @@
-use Rattle.std.proofs.Common.{◌≡◌, ℕ, ◌<◌, Some, map, sym, ap, ◌∙◌, subst, slice_set}
+use Rattle.std.proofs.Common.{◌≡◌, ◌<◌, Some, map, sym, ap, ◌∙◌, subst, slice_set}
 use Rattle.std.specs.Vec.{with_item}
 use Rattle.steps.proofs.Refused.{may_begin}
 use Rattle.steps.proofs.Begun.{begun_core, begun_view}

@@ -1,10 +1,7 @@
-use Rattle.std.proofs.Common.{◌≡◌, ℕ, ◌<◌, Some, None, Option, IsSome, Vec, map, refl, sym, ap, ◌∙◌, subst, slice_set, slice_index_or, length}
-use Rattle.locktable.specs.Locks.{without_locks}
-use Rattle.procedure.specs.declared.limits.TheConstants.{SESSIONS}
-use Rattle.steps.specs.CoreFields.{IsCore, call_at, view_of}
-use Rattle.steps.specs.CoreViews.{CoreView, GivesUp, Underway, open_at}
+use Rattle.std.proofs.Common.{◌≡◌, ◌<◌, None, Option, IsSome, Vec, refl, sym, ap, ◌∙◌, subst}
+use Rattle.steps.specs.CoreFields.{IsCore, view_of}
+use Rattle.steps.specs.CoreViews.{GivesUp, Underway, open_at}
 use Rattle.steps.specs.declared.calls.OpenCall.{OpenCall}
-use Rattle.steps.specs.declared.cores.Core.TheInside.{Inside}
 use Rattle.steps.proofs.Closed.{within, gave_up, give_up_core, give_up_view, is_open, not_open}
 use Rattle.steps.proofs.cores.Core.give_up.Goals as goal
 
@@ -17,7 +14,7 @@ clear-requires g c = subst (λ n. c.from-index.result < n) c.self.invariant.sess
 pub invariant_of-self : goal.invariant_of-self
 invariant_of-self g c =
     give_up_core c.self.inside c.self.invariant c.from-index.result c.in-Some.call (sym c.in-Some.ensures.value) c.taken.new.calls c.undo_all.new.store c.release_all.new.self c.clear.new.self
-    c.in-Some.ensures.some c.undo_all.ensures c.release_all.ensures c.clear.ensures
+    c.in-Some.ensures.some c.undo_all.ensures.versions c.release_all.ensures c.clear.ensures
 
 pub invariant_of-self-in-None : goal.invariant_of-self-in-None
 invariant_of-self-in-None g c = subst (λ (calls : Vec (Option (OpenCall g.row.A.Denot)) g.row.A.Denot). IsCore (record c.self.inside { calls = calls })) (sym (c.in-None.ensures.none refl)) c.self.invariant
@@ -26,7 +23,7 @@ pub returns-in-Some-clause-given_up : goal.returns-in-Some-clause-given_up
 returns-in-Some-clause-given_up g c =
     subst (λ i. GivesUp c.args.self.now (view_of (gave_up c.self.inside c.self.invariant c.from-index.result c.taken.new.calls c.undo_all.new.store c.release_all.new.self c.clear.new.self)) i) c.from-index.ensures
     (give_up_view c.self.inside c.self.invariant c.from-index.result c.in-Some.call (sym c.in-Some.ensures.value) c.taken.new.calls c.undo_all.new.store c.release_all.new.self c.clear.new.self
-    c.args.self.now c.self.view_is c.in-Some.ensures.some c.undo_all.ensures)
+    c.args.self.now c.self.view_is c.in-Some.ensures.some c.undo_all.ensures.versions c.undo_all.ensures.slots)
 
 pub returns-in-Some-clause-active : goal.returns-in-Some-clause-active
 returns-in-Some-clause-active g c =

@@ -1,4 +1,4 @@
-use Rattle.std.proofs.Common.{◌≡◌, ℕ, List, Option, Some, None, inl, inr, refl, sym, ap, ◌∙◌, length, slice_index_or, true≢false}
+use Rattle.std.proofs.Common.{◌≡◌, List, Option, Some, None, inl, inr, refl, sym, ap, ◌∙◌, length, slice_index_or, true≢false}
 use Rattle.std.proofs.lemmas.Bool.{eq-eqb, ne_eqb}
 use Rattle.commitlog.specs.declared.limits.TheConstants.{RECORDS}
 use Rattle.steps.specs.CoreFields.{call_at}

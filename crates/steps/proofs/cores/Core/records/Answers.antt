@@ -1,7 +1,7 @@
 use Rattle.std.proofs.Common.{subst}
 use Rattle.commitlog.specs.Histories.{IsCyclic, IsLegal, IsOrderly}
 use Rattle.image.specs.Merges.{table_of}
-use Rattle.steps.specs.CoreViews.{CoreView}
+use Rattle.steps.specs.CoreViews.{CoreView, IsSmall}
 use Rattle.steps.proofs.Standing.{history}
 use Rattle.steps.proofs.cores.Core.records.Goals as goal
 
@@ -13,3 +13,6 @@ returns-clause-orderly g c = subst (λ (v : CoreView). IsOrderly v.log) c.self.v
 
 pub returns-clause-cyclic : goal.returns-clause-cyclic
 returns-clause-cyclic g c = subst (λ (v : CoreView). IsCyclic v.log) c.self.view_is (history c.self.inside c.self.invariant).2
+
+pub returns-clause-small : goal.returns-clause-small
+returns-clause-small g c = subst (λ (v : CoreView). IsSmall v.catalog (table_of v.opening) v.log) c.self.view_is c.self.invariant.small

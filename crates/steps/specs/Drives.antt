@@ -1,0 +1,21 @@
+-- What a driven schedule makes of a core.
+use Rattle.std.specs.Prelude.{◌≡◌, ℕ, List, [], ◌∷◌, slice_get, Some}
+use Rattle.procedure.specs.Procedures.{Procedure}
+use Rattle.commitlog.specs.Records.{Record}
+use Rattle.image.specs.Images.{Image}
+use Rattle.steps.specs.CoreViews.{CoreView}
+use Rattle.steps.specs.Openings.{IsOpened}
+use Rattle.steps.specs.Schedules.{HandlesAll}
+use Rattle.steps.specs.declared.schedules.Event.{Event}
+use Rattle.steps.specs.declared.schedules.Reply.{Reply}
+
+-- the events from a core that was just opened
+pub record IsDriven {A : Type 0} (c : List Procedure) (i : Image) (events : List (Event A)) (core : CoreView) (replies : List (Reply A)) : Type 0 where
+  pub first : CoreView
+  pub opened : IsOpened c i first
+  pub handled : HandlesAll events first core replies
+
+-- each record stands at its place
+abbrev pub EachStands : List Record → List (ℕ × Record) → Type 0
+EachStands log [] = Unit {0}
+EachStands log ((place, r) ∷ l) = (slice_get log place ≡ Some r) × EachStands log l

@@ -1,0 +1,101 @@
+-- What the events of a schedule do to a core, and how they are answered.
+use Rattle.std.specs.Prelude.{◌≡◌, ◌↔◌, ℕ, Bool, true, false, List, [], ◌∷◌, ◌++◌, map, slice_index_or, slice_set, Option, Some, None, Ok, Err, OnOk, OnErr, IfOk, IsOk, IsSome, is_ok}
+use Rattle.std.specs.declared.result.Result.{Result}
+use Rattle.procedure.specs.Bytes.{Bytes}
+use Rattle.commitlog.specs.Records.{Record, Call}
+use Rattle.commitlog.specs.Histories.{phase_of}
+use Rattle.steps.specs.CoreViews.{CoreView, Finishes, GivesUp, IsAnswer, OfOpen, Steps, front_of, one_more, open_at, stepped_as, with_call}
+use Rattle.steps.specs.Headline.{Begun}
+use Rattle.steps.specs.Refusals.{Answers, begin_refusal, finish_refusal, step_refusal}
+use Rattle.steps.specs.declared.errors.BeginError.{BeginError}
+use Rattle.steps.specs.declared.errors.BeginError.TheVariants as beginning
+use Rattle.steps.specs.declared.errors.StepError.{StepError}
+use Rattle.steps.specs.declared.errors.StepError.TheVariants as stepping
+use Rattle.steps.specs.declared.errors.FinishError.{FinishError}
+use Rattle.steps.specs.declared.errors.FinishError.TheVariants as finishing
+use Rattle.steps.specs.declared.errors.NotActive.{NotActive}
+use Rattle.steps.specs.declared.finish.Answer.{Answer}
+use Rattle.steps.specs.declared.schedules.Event.{Event}
+use Rattle.steps.specs.declared.schedules.Event.TheVariants as event
+use Rattle.steps.specs.declared.schedules.Reply.{Reply}
+use Rattle.steps.specs.declared.schedules.Reply.TheVariants as reply
+use Rattle.steps.specs.declared.step.Stepped.{Stepped}
+
+-- ONE EVENT
+
+-- where a call begins the session has it, and where none does nothing changes
+pub record BeginsAs (old new : CoreView) (s n p : ℕ) (args : List Bytes) (r : Result (Unit {0}) BeginError) : Type 0 where
+  pub begun : OnOk r (new ≡ with_call old s (Some (record { number = n; procedure = p; args = args; start = phase_of old.log; count = 0 })))
+  pub refused : OnErr r (new ≡ old)
+  pub refusal : Answers (begin_refusal old s n p args) beginning.NoMemory r
+
+pub record StepsAs (old new : CoreView) (s : ℕ) (r : Result Stepped StepError) : Type 0 where
+  pub stepped : OnOk r (OfOpen old s (Steps old new s))
+  pub ready : IfOk r (λ x. OfOpen old s (λ c. x ≡ stepped_as (front_of old (one_more c))))
+  pub refused : OnErr r (new ≡ old)
+  pub refusal : Answers (step_refusal old s) stepping.NoMemory r
+
+module _ {A : Type 0} where
+  pub record FinishesAs (old new : CoreView) (s : ℕ) (r : Result (Answer A) FinishError) : Type 0 where
+    pub finished : OnOk r (OfOpen old s (Finishes old new s))
+    pub answer : IfOk r (λ a. OfOpen old s (λ c. IsAnswer old c a.place a.outcome a.replies))
+    pub refused : OnErr r (new ≡ old)
+    pub refusal : Answers (finish_refusal old s) finishing.NoMemory r
+
+pub record GivesUpAs (old new : CoreView) (s : ℕ) (r : Result (Unit {0}) NotActive) : Type 0 where
+  pub given_up : OnOk r (GivesUp old new s)
+  pub refused : OnErr r (new ≡ old)
+  pub active : IsOk r ↔ IsSome (open_at old s)
+
+module _ {A : Type 0} where
+  abbrev pub Handles : Event A → (old new : CoreView) → Reply A → Type 0
+  Handles (event.Begin s n p args) old new x = (r : Result (Unit {0}) BeginError) × (x ≡ reply.Begin r) × BeginsAs old new s n p (map (λ b. b.items) args.items) r
+  Handles (event.Step s) old new x = (r : Result Stepped StepError) × (x ≡ reply.Step r) × StepsAs old new s r
+  Handles (event.Finish s) old new x = (r : Result (Answer A) FinishError) × (x ≡ reply.Finish r) × FinishesAs old new s r
+  Handles (event.GiveUp s) old new x = (r : Result (Unit {0}) NotActive) × (x ≡ reply.GiveUp r) × GivesUpAs old new s r
+
+  -- ALL OF THEM
+
+  -- the events, one after another, each with its reply
+  abbrev pub HandlesAll : List (Event A) → (old new : CoreView) → List (Reply A) → Type 0
+  HandlesAll [] old new [] = old ≡ new
+  HandlesAll [] old new (r ∷ rs) = ⊥
+  HandlesAll (e ∷ es) old new [] = ⊥
+  HandlesAll (e ∷ es) old new (r ∷ rs) = (between : CoreView) × Handles e old between r × HandlesAll es between new rs
+
+  -- WHAT WAS ANSWERED, BY THE EVENTS AND THE REPLIES ALONE
+
+  abbrev pub is_accepted : Reply A → Bool
+  is_accepted (reply.Begin r) = is_ok r
+  is_accepted (reply.Step r) = is_ok r
+  is_accepted (reply.Finish r) = is_ok r
+  is_accepted (reply.GiveUp r) = is_ok r
+
+  -- with what each session's open call was begun, where an event is accepted
+  abbrev pub begun_by : Event A → Bool → List (Option Begun) → List (Option Begun)
+  begun_by e false b = b
+  begun_by (event.Begin s n p args) true b = slice_set b s (Some (record { number = n; procedure = p; args = map (λ b. b.items) args.items }))
+  begun_by (event.Step s) true b = b
+  begun_by (event.Finish s) true b = slice_set b s None
+  begun_by (event.GiveUp s) true b = slice_set b s None
+
+  -- a call at its place, with what its begin gave and what its answer gives
+  abbrev pub answered_call : ℕ → Option Begun → Answer A → List (ℕ × Record)
+  answered_call s None a = []
+  answered_call s (Some b) a = (a.place, Call s b.number b.procedure b.args a.outcome a.replies) ∷ []
+
+  abbrev pub answer_to : Event A → Reply A → List (Option Begun) → List (ℕ × Record)
+  answer_to (event.Begin s n p args) r b = []
+  answer_to (event.Step s) r b = []
+  answer_to (event.GiveUp s) r b = []
+  answer_to (event.Finish s) (reply.Finish (Ok a)) b = answered_call s (slice_index_or b s None) a
+  answer_to (event.Finish s) (reply.Finish (Err e)) b = []
+  answer_to (event.Finish s) (reply.Begin r) b = []
+  answer_to (event.Finish s) (reply.Step r) b = []
+  answer_to (event.Finish s) (reply.GiveUp r) b = []
+
+  -- the calls of the accepted finishes, in order, each at the place that its answer gives
+  abbrev pub answered_calls : List (Event A) → List (Reply A) → List (Option Begun) → List (ℕ × Record)
+  answered_calls [] rs b = []
+  answered_calls (e ∷ es) [] b = []
+  answered_calls (e ∷ es) (r ∷ rs) b = answer_to e r b ++ answered_calls es rs (begun_by e (is_accepted r) b)

@@ -1,0 +1,74 @@
+//! A core driven by a list of events.
+
+ghost use Rattle.std.specs.Prelude.{◌≡◌, ◌≤◌, ◌+◌, [], IfOk, None, length, map, replicate, vec_capacity};
+ghost use Rattle.procedure.specs.declared.limits.TheConstants.{SESSIONS};
+ghost use Rattle.commitlog.specs.Histories.{IsCyclic, IsLegal, IsOrderly};
+ghost use Rattle.image.specs.Merges.{table_of};
+ghost use Rattle.steps.specs.CoreViews.{CoreView, IsSmall};
+ghost use Rattle.steps.specs.Headline.{calls_of};
+ghost use Rattle.steps.specs.Openings.{IsOpened, is_opening};
+ghost use Rattle.steps.specs.Refusals.{Answers, unless};
+ghost use Rattle.steps.specs.Schedules.{HandlesAll, answered_calls};
+ghost use Rattle.steps.specs.Drives.{EachStands, IsDriven};
+ghost use Rattle.steps.specs.declared.errors.OpenError.TheVariants as refused;
+
+use crate::cores::Core;
+use crate::errors::OpenError;
+use crate::schedules::{Event, Reply};
+use image::Image;
+use procedure::{Catalog, NoMemory};
+use std::alloc::Allocator;
+
+/// What a schedule made of a core.
+#[derive(Drop)]
+pub struct Run<A: Allocator> {
+    pub core: Core<A>,
+    /// One reply for each event, in order.
+    pub answers: Vec<Reply<A>, A>,
+}
+
+/// The events, one after another; their replies go into the list, which has room for them.
+fn handle_all<A: Allocator + Clone>(
+    core: &mut Core<A>,
+    events: Vec<Event<A>, A>,
+    answers: &mut Vec<Reply<A>, A>,
+)
+    requires empty { answers.old.items ≡ [] }
+    requires room { length events.items ≤ vec_capacity answers.old }
+    ensures { HandlesAll events.items core.old core.new answers.new.items }
+{
+    for event in events {
+        answers.push_reserved(core.handle(event));
+    }
+}
+
+/// Opens a core and carries out the events, one after another, each with one reply. The log is then one
+/// history of one thread, in which every answered call stands once, at the place that its answer gives,
+/// and no other call.
+///
+/// It is refused where the core isn't opened, and by `NoMemory` where there is no room for the replies.
+pub fn drive<A: Allocator + Copy>(
+    alloc: A,
+    catalog: Catalog<A>,
+    opening: Image<A>,
+    events: Vec<Event<A>, A>,
+) -> Result<Run<A>, OpenError>
+    ensures run { IfOk result (λ r. IsDriven catalog opening events.items r.core r.answers.items) }
+    ensures legal { IfOk result (λ r. IsLegal r.core.catalog (table_of r.core.opening) r.core.log) }
+    ensures orderly { IfOk result (λ r. IsOrderly r.core.log) }
+    ensures cyclic { IfOk result (λ r. IsCyclic r.core.log) }
+    ensures small { IfOk result (λ r. IsSmall r.core.catalog (table_of r.core.opening) r.core.log) }
+    ensures calls { IfOk result (λ r. calls_of r.core.log ≡ map (λ x. x.1) (answered_calls events.items r.answers.items (replicate SESSIONS None))) }
+    ensures places { IfOk result (λ r. EachStands r.core.log (answered_calls events.items r.answers.items (replicate SESSIONS None))) }
+    ensures refusal { Answers (unless (is_opening opening) refused.NotAnOpening) refused.NoMemory result }
+{
+    let mut core = Core::open(alloc, catalog, opening)?;
+    let mut answers = match Vec::with_capacity(alloc, events.len()) {
+        Ok(answers) => answers,
+        Err(_) => return Err(OpenError::NoMemory),
+    };
+    handle_all(&mut core, events, &mut answers);
+    // Brings in what holds of the log of every core.
+    let _records = core.records();
+    Ok(Run { core, answers })
+}

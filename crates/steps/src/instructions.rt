@@ -1,0 +1,127 @@
+//! How a call executes an instruction.
+
+ghost use Rattle.std.specs.Prelude.{◌≡◌, ◌<◌, ℕ, cond, Err, IfOk, IfSome, OnErr, OnOk, None, Some, option_copied, map, suc};
+ghost use Rattle.procedure.specs.Bytes.{Bytes, same};
+ghost use Rattle.procedure.specs.Needs.{CopiesValue, accessed};
+ghost use Rattle.procedure.specs.Runs.{advanced, next_need};
+ghost use Rattle.procedure.specs.declared.needs.Access.TheVariants as access;
+ghost use Rattle.procedure.specs.declared.limits.TheConstants.{INSTRUCTIONS};
+ghost use Rattle.steps.specs.Advances.{Advances, GoesOn, SameOpen, Wrote, fed_with, touch_by};
+ghost use Rattle.steps.specs.World.{live_of, note, wrote};
+ghost use Rattle.steps.specs.Edits.{first_noted, noted_of, versions_in};
+
+use crate::calls::OpenCall;
+use crate::edits::{found, write_key};
+use crate::notes::Note;
+use phase::Phase;
+use procedure::{Access, Key, Machine, Need, NoMemory, Value};
+use record_store::{CreateError, Store};
+use std::alloc::Allocator;
+
+/// Tells a machine what the key of its write holds. It takes no memory.
+fn feed<A: Allocator + Clone>(machine: &mut Machine<A>, found: Option<&Value<A>>)
+    requires { CopiesValue (next_need machine.old.args machine.old.progress) → ⊥ }
+    ensures { machine.new ≡ record machine.old { progress = advanced machine.old.args machine.old.progress (option_copied found.entry) } }
+{
+    match machine.fed(found) {
+        Ok(()) => {}
+        Err(_) => unreachable!(),
+    }
+}
+
+/// A key's live version becomes this, and what it replaced is noted. All memory is taken first.
+fn write_live<A: Allocator + Clone>(
+    store: &mut Store<A>,
+    call: &mut OpenCall<A>,
+    key: Key,
+    phase: Phase,
+    live: Option<Value<A>>,
+) -> Result<(), CreateError>
+    requires { CopiesValue (next_need call.old.machine.args call.old.machine.progress) → ⊥ }
+    ensures ok { OnOk result (Wrote phase key live store.old call.old store.new call.new) }
+    ensures err { OnErr result ((store.new ≡ store.old) × SameOpen call.old call.new) }
+{
+    match call.notes.reserve(1) {
+        Ok(()) => {}
+        Err(_) => return Err(CreateError::NoMemory),
+    }
+    match write_key(store, key, phase, call.start, live) {
+        Ok(before) => {
+            feed(&mut call.machine, before.as_ref());
+            call.notes.push_reserved(Note { key, before });
+            Ok(())
+        }
+        Err(refused) => Err(refused),
+    }
+}
+
+/// Carries out an instruction that writes a key. It may find the key as it must not, and then ends the
+/// call and changes nothing.
+fn write<A: Allocator + Clone>(
+    store: &mut Store<A>,
+    call: &mut OpenCall<A>,
+    key: Key,
+    phase: Phase,
+) -> Result<(), CreateError>
+    requires { accessed (next_need call.old.machine.args call.old.machine.progress) ≡ access.Writes key }
+    ensures ok { OnOk result (GoesOn phase store.old call.old store.new call.new) }
+    ensures executed { call.new.executed ≡ call.old.executed }
+    ensures err { OnErr result ((store.new ≡ store.old) × SameOpen call.old call.new) }
+{
+    match call.machine.next() {
+        Ok(Need::Write(_, update)) => match update.becomes(found(store, &key)) {
+            Some(live) => write_live(store, call, key, phase, live),
+            None => {
+                feed(&mut call.machine, found(store, &key));
+                Ok(())
+            }
+        },
+        Ok(_) => unreachable!(),
+        Err(NoMemory) => Err(CreateError::NoMemory),
+    }
+}
+
+/// What the key holds that an instruction touches.
+fn seen<A: Allocator>(store: &Store<A>, access: Access) -> Option<&Value<A>>
+    ensures { option_copied result ≡ Rattle.steps.specs.World.found (versions_in store.now) (touch_by access) }
+{
+    match access {
+        Access::Reads(key) | Access::Writes(key) => found(store, &key),
+        Access::Nothing | Access::Ended(_) => None,
+    }
+}
+
+/// Carries out an instruction that writes no key.
+fn read<A: Allocator + Clone>(
+    store: &Store<A>,
+    machine: &mut Machine<A>,
+    access: Access,
+) -> Result<(), NoMemory>
+    ensures ok { OnOk result (machine.new ≡ fed_with (Rattle.steps.specs.World.found (versions_in store.now) (touch_by access)) machine.old) }
+    ensures err { OnErr result (machine.new ≡ machine.old) }
+{
+    machine.fed(seen(store, access))
+}
+
+/// Executes the next instruction of a call, whose lock is held.
+pub(crate) fn run<A: Allocator + Clone>(
+    store: &mut Store<A>,
+    call: &mut OpenCall<A>,
+    access: Access,
+    phase: Phase,
+) -> Result<(), CreateError>
+    requires access { access ≡ accessed (next_need call.old.machine.args call.old.machine.progress) }
+    requires few { call.old.executed < INSTRUCTIONS }
+    ensures ok { OnOk result (Advances phase store.old call.old store.new call.new) }
+    ensures err { OnErr result ((store.new ≡ store.old) × SameOpen call.old call.new) }
+{
+    match access {
+        Access::Writes(key) => write(store, call, key, phase)?,
+        _ => match read(store, &mut call.machine, access) {
+            Ok(()) => {}
+            Err(NoMemory) => return Err(CreateError::NoMemory),
+        },
+    }
+    call.executed += 1;
+    Ok(())
+}
