@@ -1,0 +1,240 @@
+-- Records that are audited, one after another.
+use Rattle.std.proofs.Common.{◌≡◌, ◌⊎◌, inl, inr, ℕ, ◌+◌, ◌≤◌, Bool, List, [], ◌∷◌, ◌++◌, length, Ok, Err, append_assoc, refl, sym, ap, ◌∙◌, subst, arith}
+use Rattle.std.specs.declared.result.Result.{Result}
+use Rattle.std.proofs.lemmas.List.{append-nil, length-append}
+use Rattle.procedure.specs.Bytes.{Bytes}
+use Rattle.procedure.specs.Table.{Table}
+use Rattle.procedure.specs.Procedures.{Procedure}
+use Rattle.commitlog.specs.Records.{Record}
+use Rattle.commitlog.specs.Histories.{EachAfter, after, table_after}
+use Rattle.commitlog.specs.LogReadings.{Reading, Log, NotALog, Damaged, IsReading}
+use Rattle.commitlog.specs.declared.formats.Version.{Version}
+use Rattle.commitlog.specs.declared.formats.LogHeader.{LogHeader}
+use Rattle.commitlog.specs.declared.decoding.Ending.{Ending}
+use Rattle.commitlog.specs.declared.decoding.LogError.{LogError}
+use Rattle.commitlog.specs.declared.decoding.LogError.TheVariants as log
+use Rattle.commitlog.proofs.Histories.{each-push, after-push}
+use Rattle.commitlog.proofs.OneReadings.{one_reading}
+use Rattle.image.specs.Images.{Image}
+use Rattle.image.specs.Merges.{table_of}
+use Rattle.replay.specs.Parts.{AreAudited, EntryAgain, audited_at}
+use Rattle.replay.specs.Replays.{IsAnsweredOn, LeavesFewOn, Diverges, Overflows, IsFirst, calls_in, is_torn}
+use Rattle.replay.specs.Headers.{NamesCatalog, NamesOpening}
+use Rattle.replay.specs.Orders.{IsAfter, IsInOrder}
+use Rattle.replay.specs.Refusals.{audit_of_log}
+use Rattle.replay.specs.Audits.{FailsAt, InOrderBut, IsAudit, IsOpening, IsOutOfOrder, NamesBoth, OfLog, OfReading, Passes}
+use Rattle.replay.specs.declared.audits.Audited.{Audited}
+use Rattle.replay.specs.declared.calls.CallError.{CallError}
+use Rattle.replay.specs.declared.calls.CallError.TheVariants as stopped
+use Rattle.replay.specs.declared.errors.AuditError.{AuditError}
+use Rattle.replay.specs.declared.errors.AuditError.TheVariants as refused
+use Rattle.replay.specs.declared.orders.Order.{Order}
+use Rattle.replay.proofs.Firsts.{Excludes, each_or_first, same_first, one_fault}
+use Rattle.replay.proofs.Reruns.{answered_after, answered_on, calls_in-push, calls_within, first_behind}
+
+-- the records so far pass
+pub record PassSoFar (c : List Procedure) (t : Table) (all left : List Record) (u : Table) (o : Order) (n p : ℕ) : Type 0 where
+  pub done : List Record
+  pub parts : all ≡ done ++ left
+  pub place : p ≡ length done
+  pub passed : EachAfter (Passes c t) done
+  pub order : IsAfter o done
+  pub table : u ≡ after c t done
+  pub calls : n ≡ calls_in done
+
+module _ (c : List Procedure) (t : Table) (all : List Record) where
+  pub none_yet : (o : Order) → IsAfter o [] → PassSoFar c t all all t o 0 0
+  unfolding after
+  none_yet o is = record { done = []; parts = refl; place = refl; passed = λ i r e. absurd (cc); order = is; table = refl; calls = refl }
+
+  module _ (r : Record) (left : List Record) (u : Table) (o : Order) (n p : ℕ) (s : PassSoFar c t all (r ∷ left) u o n p) where
+    first : {F : List Record → Record → Type 0} → F s.done r → IsFirst (Passes c t) F all p
+    first {F} fault =
+        subst (λ l. IsFirst (Passes c t) F l p) (sym s.parts)
+        (subst (λ j. IsFirst (Passes c t) F (s.done ++ r ∷ left) j) (sym s.place) (first_behind s.done left r s.passed fault))
+
+    -- one that is out of order stops the audit
+    pub disorder : (torn : Bool) → (IsInOrder s.done r → ⊥) → AreAudited c t all torn (Err (refused.Disorder p))
+    disorder torn out = first out
+
+    module _ (in_order : IsInOrder s.done r) where
+      -- so does one that doesn't run again
+      pub fails : (torn : Bool) (e : CallError) → EntryAgain c u r (Err e) → AreAudited c t all torn (Err (audited_at e p))
+      fails torn stopped.Diverged h = first (in_order, λ a. h (subst (λ (x : Table). IsAnsweredOn c x r) (sym s.table) (answered_on c t s.done r a)))
+      fails torn stopped.TooMany h = (
+        p,
+        first
+            (in_order, (answered_after c t s.done r (subst (λ (x : Table). IsAnsweredOn c x r) s.table h.0), λ few. h.1 (subst (λ (x : Table). LeavesFewOn c x r) (sym s.table) few))),
+      )
+      fails torn stopped.NoMemory h = tt
+
+      -- and one that passes goes with them
+      pub pass_on : (v : Table) (o' : Order) → IsAfter o' (s.done ++ r ∷ []) → EntryAgain c u r (Ok v) → PassSoFar c t all left v o' (n + calls_in (r ∷ [])) (p + 1)
+      pass_on v o' is ran = record {
+        done = s.done ++ r ∷ [];
+        parts = s.parts ∙ sym (append_assoc s.done (r ∷ []) left);
+        place = omega (arith, s.place, length-append s.done (r ∷ []));
+        passed = each-push (Passes c t) s.done r s.passed
+            (in_order, (answered_after c t s.done r (subst (λ (x : Table). IsAnsweredOn c x r) s.table ran.0), subst (λ (x : Table). LeavesFewOn c x r) s.table ran.1));
+        order = is;
+        table = ran.2 ∙ ap (λ (x : Table). table_after c x r) s.table ∙ sym (after-push c t s.done r);
+        calls = ap (λ x. x + calls_in (r ∷ [])) s.calls ∙ sym (calls_in-push s.done r);
+      }
+
+  pub all_pass : (u : Table) (o : Order) (n p : ℕ) (torn : Bool) → PassSoFar c t all [] u o n p → AreAudited c t all torn (Ok (record { records = p; calls = n; torn = torn }))
+  all_pass u o n p torn s =
+      let same : s.done ≡ all = sym (append-nil s.done) ∙ sym s.parts in
+      (subst (λ x. EachAfter (Passes c t) x) same s.passed, λ i. record { records = (s.place ∙ ap length same) i; calls = (s.calls ∙ ap calls_in same) i; torn = torn })
+
+  pub counts : (left : List Record) (u : Table) (o : Order) (n p : ℕ) → PassSoFar c t all left u o n p → (n ≤ p) × (p + length left ≡ length all)
+  counts left u o n p s = (omega (arith, s.calls, s.place, calls_within s.done), omega (arith, s.place, ap length s.parts, length-append s.done left))
+
+module _ (c : List Procedure) (i : Image) (v : Version) (h : LogHeader) (l : List Record) (e : Ending) (names : NamesBoth c i v h) where
+  audit_of_log_is : (x : Result Audited AuditError) → AreAudited c (table_of i) l (is_torn e) x → OfLog c i v h l e x ⊎ (x ≡ Err refused.NoMemory)
+  audit_of_log_is (Ok r) a = inl (names, a.0, a.1)
+  audit_of_log_is (Err (refused.Disorder j)) a = inl (names, a)
+  audit_of_log_is (Err (refused.Diverged j)) a = inl (names, a)
+  audit_of_log_is (Err refused.TooMany) a = inl (names, a.0, a.1)
+  audit_of_log_is (Err refused.NoMemory) a = inr refl
+  audit_of_log_is (Err refused.NotAnOpening) a = absurd a
+  audit_of_log_is (Err refused.NotALog) a = absurd a
+  audit_of_log_is (Err (refused.Damaged j)) a = absurd a
+  audit_of_log_is (Err refused.WrongCatalog) a = absurd a
+  audit_of_log_is (Err refused.WrongOpening) a = absurd a
+
+  pub audits_of_log : (t : Table) (all : List Record) (torn : Bool) (x : Result Audited AuditError) → t ≡ table_of i → all ≡ l → torn ≡ is_torn e → AreAudited c t all torn x →
+      OfLog c i v h l e x ⊎ (x ≡ Err refused.NoMemory)
+  audits_of_log t all torn x table_is all_is torn_is a =
+      audit_of_log_is x
+      (subst (λ (u : Table). AreAudited c u l (is_torn e) x) table_is
+      (subst (λ (m : List Record). AreAudited c t m (is_torn e) x) all_is
+      (subst (λ (b : Bool). AreAudited c t all b x) torn_is a)))
+
+-- ---- nothing else
+
+module _ (c : List Procedure) (t : Table) where
+  disorder_fails : Excludes (Passes c t) IsOutOfOrder
+  disorder_fails l r pass out = out pass.0
+
+  diverged_fails : Excludes (Passes c t) (InOrderBut (Diverges c t))
+  diverged_fails l r pass other = other.1 pass.1.0
+
+  overflow_fails : Excludes (Passes c t) (InOrderBut (Overflows c t))
+  overflow_fails l r pass full = full.1.1 pass.1.1
+
+  disorder_or_diverged : Excludes IsOutOfOrder (InOrderBut (Diverges c t))
+  disorder_or_diverged l r out other = out other.0
+
+  disorder_or_overflow : Excludes IsOutOfOrder (InOrderBut (Overflows c t))
+  disorder_or_overflow l r out full = out full.0
+
+  diverged_or_overflow : Excludes (InOrderBut (Diverges c t)) (InOrderBut (Overflows c t))
+  diverged_or_overflow l r other full = other.1 full.1.0
+
+-- the kinds of answer
+data Told (c : List Procedure) (i : Image) (v : Version) (h : LogHeader) (l : List Record) (e : Ending) (x : Result Audited AuditError) : Type 0 where
+  other_catalog : (NamesCatalog h c → ⊥) → x ≡ Err refused.WrongCatalog → Told c i v h l e x
+  other_opening : NamesCatalog h c → (NamesOpening v h i → ⊥) → x ≡ Err refused.WrongOpening → Told c i v h l e x
+  pass : NamesBoth c i v h → EachAfter (Passes c (table_of i)) l → x ≡ Ok (record { records = length l; calls = calls_in l; torn = is_torn e }) → Told c i v h l e x
+  out_of_order : NamesBoth c i v h → (j : ℕ) → FailsAt IsOutOfOrder c i l j → x ≡ Err (refused.Disorder j) → Told c i v h l e x
+  diverged : NamesBoth c i v h → (j : ℕ) → FailsAt (InOrderBut (Diverges c (table_of i))) c i l j → x ≡ Err (refused.Diverged j) → Told c i v h l e x
+  overflowed : NamesBoth c i v h → (j : ℕ) → FailsAt (InOrderBut (Overflows c (table_of i))) c i l j → x ≡ Err refused.TooMany → Told c i v h l e x
+
+module _ (c : List Procedure) (i : Image) (v : Version) (h : LogHeader) (l : List Record) (e : Ending) where
+  told : (x : Result Audited AuditError) → OfLog c i v h l e x → Told c i v h l e x
+  told (Ok r) a = pass a.0 a.1 (ap (λ (s : Audited). Ok s) a.2)
+  told (Err refused.WrongCatalog) a = other_catalog a refl
+  told (Err refused.WrongOpening) a = other_opening a.0 a.1 refl
+  told (Err (refused.Disorder j)) a = out_of_order a.0 j a.1 refl
+  told (Err (refused.Diverged j)) a = diverged a.0 j a.1 refl
+  told (Err refused.TooMany) a = overflowed a.0 a.1 a.2 refl
+  told (Err refused.NotAnOpening) a = absurd a
+  told (Err refused.NotALog) a = absurd a
+  told (Err (refused.Damaged j)) a = absurd a
+  told (Err refused.NoMemory) a = absurd a
+
+  one_told : (x y : Result Audited AuditError) → Told c i v h l e x → Told c i v h l e y → x ≡ y
+  one_told x y (other_catalog a p) (other_catalog b q) = p ∙ sym q
+  one_told x y (other_catalog a p) (other_opening b o q) = absurd (a b)
+  one_told x y (other_catalog a p) (pass b m q) = absurd (a b.0)
+  one_told x y (other_catalog a p) (out_of_order b k g q) = absurd (a b.0)
+  one_told x y (other_catalog a p) (diverged b k g q) = absurd (a b.0)
+  one_told x y (other_catalog a p) (overflowed b k g q) = absurd (a b.0)
+  one_told x y (other_opening a o p) (other_catalog b q) = absurd (b a)
+  one_told x y (other_opening a o p) (other_opening b u q) = p ∙ sym q
+  one_told x y (other_opening a o p) (pass b m q) = absurd (o b.1)
+  one_told x y (other_opening a o p) (out_of_order b k g q) = absurd (o b.1)
+  one_told x y (other_opening a o p) (diverged b k g q) = absurd (o b.1)
+  one_told x y (other_opening a o p) (overflowed b k g q) = absurd (o b.1)
+  one_told x y (pass a m p) (other_catalog b q) = absurd (b a.0)
+  one_told x y (pass a m p) (other_opening b u q) = absurd (u a.1)
+  one_told x y (pass a m p) (pass b n q) = p ∙ sym q
+  one_told x y (pass a m p) (out_of_order b k g q) = absurd (each_or_first (disorder_fails c (table_of i)) l k m g)
+  one_told x y (pass a m p) (diverged b k g q) = absurd (each_or_first (diverged_fails c (table_of i)) l k m g)
+  one_told x y (pass a m p) (overflowed b k g q) = absurd (each_or_first (overflow_fails c (table_of i)) l k m g)
+  one_told x y (out_of_order a j f p) (other_catalog b q) = absurd (b a.0)
+  one_told x y (out_of_order a j f p) (other_opening b u q) = absurd (u a.1)
+  one_told x y (out_of_order a j f p) (pass b n q) = absurd (each_or_first (disorder_fails c (table_of i)) l j n f)
+  one_told x y (out_of_order a j f p) (out_of_order b k g q) =
+      p ∙ ap (λ n. Err (refused.Disorder n)) (same_first l j k (disorder_fails c (table_of i)) (disorder_fails c (table_of i)) f g) ∙ sym q
+  one_told x y (out_of_order a j f p) (diverged b k g q) =
+      absurd (one_fault l j k (disorder_fails c (table_of i)) (diverged_fails c (table_of i)) (disorder_or_diverged c (table_of i)) f g)
+  one_told x y (out_of_order a j f p) (overflowed b k g q) =
+      absurd (one_fault l j k (disorder_fails c (table_of i)) (overflow_fails c (table_of i)) (disorder_or_overflow c (table_of i)) f g)
+  one_told x y (diverged a j f p) (other_catalog b q) = absurd (b a.0)
+  one_told x y (diverged a j f p) (other_opening b u q) = absurd (u a.1)
+  one_told x y (diverged a j f p) (pass b n q) = absurd (each_or_first (diverged_fails c (table_of i)) l j n f)
+  one_told x y (diverged a j f p) (out_of_order b k g q) =
+      absurd (one_fault l k j (disorder_fails c (table_of i)) (diverged_fails c (table_of i)) (disorder_or_diverged c (table_of i)) g f)
+  one_told x y (diverged a j f p) (diverged b k g q) =
+      p ∙ ap (λ n. Err (refused.Diverged n)) (same_first l j k (diverged_fails c (table_of i)) (diverged_fails c (table_of i)) f g) ∙ sym q
+  one_told x y (diverged a j f p) (overflowed b k g q) =
+      absurd (one_fault l j k (diverged_fails c (table_of i)) (overflow_fails c (table_of i)) (diverged_or_overflow c (table_of i)) f g)
+  one_told x y (overflowed a j f p) (other_catalog b q) = absurd (b a.0)
+  one_told x y (overflowed a j f p) (other_opening b u q) = absurd (u a.1)
+  one_told x y (overflowed a j f p) (pass b n q) = absurd (each_or_first (overflow_fails c (table_of i)) l j n f)
+  one_told x y (overflowed a j f p) (out_of_order b k g q) =
+      absurd (one_fault l k j (disorder_fails c (table_of i)) (overflow_fails c (table_of i)) (disorder_or_overflow c (table_of i)) g f)
+  one_told x y (overflowed a j f p) (diverged b k g q) =
+      absurd (one_fault l k j (diverged_fails c (table_of i)) (overflow_fails c (table_of i)) (diverged_or_overflow c (table_of i)) g f)
+  one_told x y (overflowed a j f p) (overflowed b k g q) = p ∙ sym q
+
+  pub one_of_log : (x y : Result Audited AuditError) → OfLog c i v h l e x → OfLog c i v h l e y → x ≡ y
+  one_of_log x y a b = one_told x y (told x a) (told y b)
+
+one_of_reading : (c : List Procedure) (i : Image) (r : Reading) (x y : Result Audited AuditError) → OfReading c i r x → OfReading c i r y → x ≡ y
+one_of_reading c i NotALog x y a b = a ∙ sym b
+one_of_reading c i (Damaged j) x y a b = a ∙ sym b
+one_of_reading c i (Log v h l e) x y a b = one_of_log c i v h l e x y a b
+
+-- there is one answer
+pub one_audit : (c : List Procedure) (i : Image) (text : Bytes) (x y : Result Audited AuditError) → IsAudit c i text x → IsAudit c i text y → x ≡ y
+one_audit c i text x y (inl a) (inl b) = a.1 ∙ sym b.1
+one_audit c i text x y (inl a) (inr b) = absurd (a.0 b.0)
+one_audit c i text x y (inr a) (inl b) = absurd (b.0 a.0)
+one_audit c i text x y (inr a) (inr b) = one_of_reading c i a.1 x y a.3 (subst (λ r. OfReading c i r y) (one_reading text b.1 a.1 b.2 a.2) b.3)
+
+pub or_no_memory : (c : List Procedure) (i : Image) (text : Bytes) (x y : Result Audited AuditError) → IsAudit c i text x ⊎ (x ≡ Err refused.NoMemory) → IsAudit c i text y →
+    (x ≡ y) ⊎ (x ≡ Err refused.NoMemory)
+or_no_memory c i text x y (inl a) b = inl (one_audit c i text x y a b)
+or_no_memory c i text x y (inr none) b = inr none
+
+-- ---- from an opening and bytes
+
+abbrev unread : {X : Type 0} → LogError → Result X LogError
+unread e = Err e
+
+abbrev nothing : AuditError → Result Audited AuditError
+nothing e = Err e
+
+module _ (c : List Procedure) (i : Image) (text : Bytes) (opening : IsOpening i) where
+  pub from_log : (v : Version) (h : LogHeader) (l : List Record) (e : Ending) (x : Result Audited AuditError) → IsReading text (Log v h l e) →
+      OfLog c i v h l e x ⊎ (x ≡ Err refused.NoMemory) → IsAudit c i text x ⊎ (x ≡ Err refused.NoMemory)
+  from_log v h l e x read (inl said) = inl (inr (opening, Log v h l e, read, said))
+  from_log v h l e x read (inr none) = inr none
+
+  pub from_no_log : {X : Type 0} (e : LogError) → (unread {X = X} e ≡ Err log.NotALog → IsReading text NotALog) → ((j : ℕ) → unread {X = X} e ≡ Err (log.Damaged j) → IsReading text (Damaged j)) →
+      IsAudit c i text (nothing (audit_of_log e)) ⊎ (nothing (audit_of_log e) ≡ Err refused.NoMemory)
+  from_no_log log.NotALog not_one damaged = inl (inr (opening, NotALog, not_one refl, refl))
+  from_no_log (log.Damaged j) not_one damaged = inl (inr (opening, Damaged j, damaged j refl, refl))
+  from_no_log log.NoMemory not_one damaged = inr refl

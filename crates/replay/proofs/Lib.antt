@@ -1,0 +1,11 @@
+pub mod Ordering
+pub mod ImageTables
+pub mod Reruns
+pub mod Recovering
+pub mod Firsts
+pub mod Auditing
+pub mod LogFronts
+pub mod OpeningImages
+pub mod ChainCuts
+pub mod Promised
+pub mod Passing

@@ -1,0 +1,109 @@
+//! A record that is run again.
+
+ghost use Rattle.std.specs.Prelude.{◌≡◌, ◌↔◌, [], ◌∷◌, IsTrue};
+ghost use Rattle.commitlog.specs.Records.{record_of};
+ghost use Rattle.replay.specs.Parts.{CallAgain, EntryAgain};
+ghost use Rattle.replay.specs.Replays.{calls_in};
+
+use commitlog::records::Entry;
+use image::limits::ENTRIES;
+use procedure::{Call, Catalog, NoMemory, Sequence, Table, Value, run_whole};
+use std::alloc::Allocator;
+
+/// Why a call isn't run again.
+pub(crate) enum CallError {
+    /// It isn't one of the catalog, or gives something else.
+    Diverged,
+    /// It leaves over 100,000 keys.
+    TooMany,
+    NoMemory,
+}
+
+impl From<NoMemory> for CallError {
+    ghost use Rattle.replay.specs.declared.calls.CallError.TheVariants as refused;
+
+    ghost from_gives = { λ _ e. e ≡ refused.NoMemory };
+
+    fn from(_refused: NoMemory) -> Self {
+        CallError::NoMemory
+    }
+}
+
+fn is_same_reply<A: Allocator>(x: &Option<Value<A>>, y: &Option<Value<A>>) -> bool
+    ensures { IsTrue result ↔ (x.now ≡ y.now) }
+{
+    match (x, y) {
+        (Some(x), Some(y)) => x.as_bytes() == y.as_bytes(),
+        (None, None) => true,
+        _ => false,
+    }
+}
+
+fn are_same_replies<A: Allocator>(x: &[Option<Value<A>>], y: &[Option<Value<A>>]) -> bool
+    ensures { IsTrue result ↔ (x.now ≡ y.now) }
+{
+    if x.len() != y.len() {
+        return false;
+    }
+    for (i, reply) in x.iter().enumerate() {
+        if !is_same_reply(reply, &y[i]) {
+            return false;
+        }
+    }
+    true
+}
+
+/// Runs a call again on a table, which a refusal gives up.
+fn run_call<A: Allocator + Clone>(
+    alloc: A,
+    catalog: &Catalog<A>,
+    call: Call<A>,
+    outcome: u8,
+    replies: &[Option<Value<A>>],
+    table: Table<A>,
+) -> Result<Table<A>, CallError>
+    ensures { CallAgain catalog.now table call.procedure call.args outcome replies.now result }
+{
+    match catalog.procedure(usize::from(call.procedure)) {
+        Some(procedure) if usize::from(procedure.arity) == call.args.len() => {
+            let done = run_whole(alloc, procedure, call.args, table)?;
+            if done.outcome != outcome || !are_same_replies(done.replies.as_slice(), replies) {
+                return Err(CallError::Diverged);
+            }
+            if done.table.len() > ENTRIES {
+                return Err(CallError::TooMany);
+            }
+            Ok(done.table)
+        }
+        _ => Err(CallError::Diverged),
+    }
+}
+
+/// Runs a record again on a table, which a refusal gives up. A token changes nothing.
+pub(crate) fn run_entry<A: Allocator + Clone>(
+    alloc: A,
+    catalog: &Catalog<A>,
+    entry: Entry<A>,
+    table: Table<A>,
+) -> Result<Table<A>, CallError>
+    ensures { EntryAgain catalog.now table (record_of entry) result }
+{
+    match entry {
+        Entry::Token { .. } => Ok(table),
+        Entry::Call {
+            call,
+            outcome,
+            replies,
+        } => run_call(alloc, catalog, call, outcome, replies.as_slice(), table),
+    }
+}
+
+/// How many calls the record is.
+pub(crate) fn calls_of<A: Allocator>(entry: &Entry<A>) -> usize
+    ensures { result ≡ calls_in (record_of entry.now ∷ []) }
+{
+    match entry {
+        Entry::Token { .. } => 0,
+        Entry::Call { .. } => 1,
+    }
+}

@@ -1,0 +1,226 @@
+//! A table recovered from images and a log.
+
+ghost use Rattle.std.specs.Prelude.{◌≡◌, ◌≤◌, ◌⊎◌, ◌↔◌, Err, IfErr, IfOk, IsTrue, OnOk, length};
+ghost use Rattle.std.specs.declared.result.Result.{Result};
+ghost use Rattle.phase.specs.declared.phases.Phase.TheVariants.{Resolve};
+ghost use Rattle.commitlog.specs.Records.{Token, record_of};
+ghost use Rattle.commitlog.specs.declared.limits.TheConstants.{RECORDS};
+ghost use Rattle.commitlog.specs.LogReadings.{IsReading, reading_of};
+ghost use Rattle.image.specs.Merges.{table_of};
+ghost use Rattle.replay.specs.Parts.{Chained, RunAgain, at_place};
+ghost use Rattle.replay.specs.Promises.{FromImages, FromOpening};
+ghost use Rattle.replay.specs.Recovery.{BeginsLog, GoesOn, IsPlaced, IsRecovery, OfLog, Recovery};
+ghost use Rattle.replay.specs.Replays.{is_torn};
+ghost use Rattle.replay.specs.declared.errors.RecoverError.{RecoverError};
+ghost use Rattle.replay.specs.declared.errors.RecoverError.TheVariants as refused;
+
+use crate::calls::{CallError, calls_of, run_entry};
+use crate::errors::RecoverError;
+use crate::headers::{names_catalog, names_opening};
+use crate::tables::into_table;
+use commitlog::records::Entry;
+use commitlog::{Ending, Record, StoredLog, read_log};
+use image::{Image, merge};
+use phase::Phase;
+use procedure::{Catalog, NoMemory, Table};
+use std::alloc::Allocator;
+use std::marker::Model;
+
+/// What was recovered.
+#[derive(Debug, Drop)]
+pub struct Recovered<A: Allocator> {
+    /// The table after the log's records.
+    pub state: Table<A>,
+    /// How many calls were run.
+    pub calls: usize,
+    /// Whether less than a record stood at the log's end.
+    pub torn: bool,
+}
+
+impl<A: Allocator> Model for Recovered<A> {
+    ghost use Rattle.replay.specs.Recovery.{Recovery};
+
+    ghost Value = { Recovery };
+
+    ghost use Rattle.replay.specs.Recovery.{recovery_code};
+
+    ghost coded = { recovery_code };
+
+    ghost view = { λ r. record { state = r.state; calls = r.calls; torn = r.torn } };
+}
+
+/// The images as one.
+fn chain_of<A: Allocator + Clone>(alloc: A, images: &[Image<A>]) -> Result<Image<A>, RecoverError>
+    ensures { Chained images.now result }
+{
+    match images.split_first() {
+        Some((full, partials)) => Ok(merge(alloc, full, partials)?),
+        None => Err(RecoverError::NotFull),
+    }
+}
+
+/// Whether a record is the resolve token of this number.
+fn resolves<A: Allocator>(entry: &Entry<A>, number: u64) -> bool
+    ensures { IsTrue result ↔ (record_of entry.now ≡ Token Resolve number) }
+{
+    match entry {
+        Entry::Token {
+            phase,
+            number: found,
+        } => *phase == Phase::Resolve && *found == number,
+        Entry::Call { .. } => false,
+    }
+}
+
+/// Whether at the place of a checkpoint's image stands its resolve token.
+fn is_placed<A: Allocator>(records: &[Record<A>], image: &Image<A>) -> bool
+    ensures { IsTrue result ↔ IsPlaced records.now image.now }
+{
+    match records.get(image.place() as usize) {
+        Some(found) => resolves(found.entry(), image.number()),
+        None => false,
+    }
+}
+
+/// Whether the log began with an image of number 0.
+fn begins_log<A: Allocator>(
+    alloc: A,
+    log: &StoredLog<A>,
+    image: &Image<A>,
+) -> Result<bool, NoMemory>
+    ensures { IfOk result (λ b. IsTrue b ↔ BeginsLog log.now.version log.now.header image.now) }
+{
+    Ok(image.place() == 0 && names_opening(alloc, log.version, &log.header, image)?)
+}
+
+/// Whether the log is one of the catalog, and goes on where the image ends.
+fn check_start<A: Allocator + Clone>(
+    alloc: A,
+    catalog: &Catalog<A>,
+    image: &Image<A>,
+    log: &StoredLog<A>,
+) -> Result<(), RecoverError>
+    ensures ok { OnOk result (GoesOn catalog.now image.now log.now.version log.now.header log.now.records) }
+    ensures err { IfErr result (λ e. OfLog catalog.now image.now log.now.version log.now.header log.now.records log.now.ending (Err e) ⊎ (e ≡ refused.NoMemory)) }
+{
+    if !names_catalog(&log.header, catalog)? {
+        return Err(RecoverError::WrongCatalog);
+    }
+    if image.number() == 0 {
+        if !begins_log(alloc, log, image)? {
+            return Err(RecoverError::WrongOpening);
+        }
+    } else if !is_placed(log.records.as_slice(), image) {
+        return Err(RecoverError::PlaceOutside);
+    }
+    Ok(())
+}
+
+fn refusal_at(stopped: CallError, place: usize) -> RecoverError
+    ensures { result ≡ at_place stopped place }
+{
+    match stopped {
+        CallError::Diverged => RecoverError::Diverged(place),
+        CallError::TooMany => RecoverError::TooMany,
+        CallError::NoMemory => RecoverError::NoMemory,
+    }
+}
+
+/// Runs the records from a place on, each after the one before it.
+fn run_again<A: Allocator + Clone>(
+    alloc: &A,
+    catalog: &Catalog<A>,
+    table: Table<A>,
+    from: usize,
+    records: Vec<Record<A>, A>,
+    torn: bool,
+) -> Result<Recovered<A>, RecoverError>
+    requires { length records.items ≤ RECORDS }
+    ensures { RunAgain catalog.now table from records.items torn result }
+{
+    let mut table = table;
+    let mut calls = 0;
+    let mut place = 0;
+    for made in records {
+        let at = place;
+        place += 1;
+        if at < from {
+            continue;
+        }
+        let entry = made.into_entry();
+        calls += calls_of(&entry);
+        match run_entry(alloc.clone()?, catalog, entry, table) {
+            Ok(after) => table = after,
+            Err(stopped) => return Err(refusal_at(stopped, at)),
+        }
+    }
+    Ok(Recovered {
+        state: table,
+        calls,
+        torn,
+    })
+}
+
+pub(crate) fn is_torn(ending: Ending) -> bool
+    ensures { result ≡ is_torn ending }
+{
+    match ending {
+        Ending::Clean => false,
+        Ending::Torn => true,
+    }
+}
+
+/// What is recovered from an image and a log.
+fn recover_log<A: Allocator + Clone>(
+    alloc: A,
+    catalog: &Catalog<A>,
+    image: Image<A>,
+    log: StoredLog<A>,
+) -> Result<Recovered<A>, RecoverError>
+    requires { length log.records ≤ RECORDS }
+    ensures { OfLog catalog.now image log.version log.header log.records log.ending result ⊎ (result ≡ Err refused.NoMemory) }
+{
+    check_start(alloc.clone()?, catalog, &image, &log)?;
+    let from = image.place() as usize;
+    let torn = is_torn(log.ending);
+    let table = into_table(alloc.clone()?, image)?;
+    run_again(&alloc, catalog, table, from, log.records.into_vec(), torn)
+}
+
+fn answer<A: Allocator + Clone>(
+    alloc: A,
+    catalog: &Catalog<A>,
+    images: &[Image<A>],
+    log_bytes: &[u8],
+) -> Result<Recovered<A>, RecoverError>
+    ensures { IsRecovery catalog.now images.now log_bytes.now result ⊎ (result ≡ Err refused.NoMemory) }
+{
+    let image = chain_of(alloc.clone()?, images)?;
+    let log = read_log(alloc.clone()?, log_bytes)?;
+    recover_log(alloc, catalog, image, log)
+}
+
+/// The table after a log's whole records: images that stand on one another are put together, and the
+/// calls that they don't cover are run again, each on the table that those before it left. The log is
+/// read once, and a call costs what it touches times the logarithm of the table.
+///
+/// The image of number 0 is the one that the log began with, spelled in the image format of the log's
+/// version; at the place of any other stands the token by which its checkpoint was cut. A call that
+/// gives something else than the log says is refused with its place, so nothing is trusted but the
+/// images and which calls there were.
+pub fn recover<A: Allocator + Clone>(
+    alloc: A,
+    catalog: &Catalog<A>,
+    images: &[Image<A>],
+    log_bytes: &[u8],
+) -> Result<Recovered<A>, RecoverError>
+    ensures answer { IsRecovery catalog.now images.now log_bytes.now result ⊎ (result ≡ Err refused.NoMemory) }
+    // From the opening alone, of each front of a log that was written from it on.
+    ensures opening { FromOpening catalog.now images.now log_bytes.now result }
+    // From images of its checkpoints, of each front that holds the last one's cut.
+    ensures images { FromImages catalog.now images.now log_bytes.now result }
+    // There is no other answer.
+    ensures only { (r : Result Recovery RecoverError) → IsRecovery catalog.now images.now log_bytes.now r → (result ≡ r) ⊎ (result ≡ Err refused.NoMemory) }
+{
+    answer(alloc, catalog, images, log_bytes)
+}

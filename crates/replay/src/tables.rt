@@ -1,0 +1,74 @@
+//! The table of an image.
+
+ghost use Rattle.std.specs.Prelude.{◌≡◌, ◌∷◌, IfOk};
+ghost use Rattle.std.specs.FinMap as finite;
+ghost use Rattle.procedure.specs.Table.{with_pairs};
+ghost use Rattle.image.specs.Merges.{table_of};
+ghost use Rattle.replay.specs.Parts.{pairs_of};
+
+use image::{Entry, Image};
+use procedure::{Key, NoMemory, Sequence, Table, Value};
+use std::alloc::Allocator;
+
+/// The keys that aren't gone, with their values.
+fn pairs_of<A: Allocator + Clone>(
+    alloc: A,
+    entries: Vec<Entry<A>, A>,
+) -> Result<Vec<(Key, Value<A>), A>, NoMemory>
+    ensures { IfOk result (λ pairs. pairs.items ≡ pairs_of entries.items) }
+{
+    let mut pairs = Vec::with_capacity(alloc, entries.len())?;
+    for entry in entries {
+        let Entry { key, cell } = entry;
+        if let Some(value) = cell {
+            pairs.push((key, value))?;
+        }
+    }
+    Ok(pairs)
+}
+
+fn copy_of_entries<A: Allocator + Clone>(
+    alloc: A,
+    entries: &[Entry<A>],
+) -> Result<Vec<Entry<A>, A>, NoMemory>
+    ensures { IfOk result (λ copy. copy.items ≡ entries.now) }
+{
+    let mut copy = Vec::with_capacity(alloc, entries.len())?;
+    for entry in entries {
+        copy.push(entry.clone()?)?;
+    }
+    Ok(copy)
+}
+
+fn table_with<A: Allocator + Clone>(
+    alloc: A,
+    entries: Vec<Entry<A>, A>,
+) -> Result<Table<A>, NoMemory>
+    ensures { IfOk result (λ t. t ≡ with_pairs finite.empty (pairs_of entries.items)) }
+{
+    let pairs = pairs_of(alloc.clone()?, entries)?;
+    Table::from_pairs(alloc, Sequence::new(pairs))
+}
+
+/// What the image holds, by move.
+pub(crate) fn into_table<A: Allocator + Clone>(
+    alloc: A,
+    image: Image<A>,
+) -> Result<Table<A>, NoMemory>
+    ensures { IfOk result (λ t. t ≡ table_of image) }
+{
+    // Brings in that the image is lawful.
+    let _entries = image.entries();
+    table_with(alloc, image.into_entries())
+}
+
+/// What the image holds, copied.
+pub(crate) fn copy_of_table<A: Allocator + Clone>(
+    alloc: A,
+    image: &Image<A>,
+) -> Result<Table<A>, NoMemory>
+    ensures { IfOk result (λ t. t ≡ table_of image.now) }
+{
+    let copy = copy_of_entries(alloc.clone()?, image.entries())?;
+    table_with(alloc, copy)
+}
