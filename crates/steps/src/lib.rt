@@ -15,10 +15,14 @@ pub mod errors;
 pub mod finish;
 mod give_up;
 mod instructions;
+#[cfg(test)]
+mod large_tests;
 pub mod laws;
 mod locking;
 mod notes;
 mod open;
+#[cfg(test)]
+mod schedule_tests;
 pub mod schedules;
 pub mod step;
 #[cfg(test)]

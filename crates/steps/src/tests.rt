@@ -1,19 +1,110 @@
 //! Tests of what no clause says: that calls succeed, and in which order they are refused.
 use super::*;
+use Given::{Long, Number, Text};
+use Line::{Adds, Deletes, EndsWithout, Inserts, Puts, Reads, Stores, Subtracts};
 use image::{Entry, Image, Kind};
-use procedure::{Catalog, Instr, Key, NoMemory, Operand, Procedure, Sequence, Value};
+use procedure::{Catalog, Instr, Key, NoMemory, Operand, Procedure, Sequence, Test, Value};
 use std::alloc::Global;
 use std::process::Abort;
 use std::test::Fail;
 
-const NOTHING: u16 = 0;
+/// An argument, or what an opening has.
+#[derive(Clone, Copy)]
+pub(crate) enum Given<'a> {
+    Text(&'a [u8]),
+    /// A number of 8 bytes.
+    Number(u64),
+    /// So many bytes, all the same.
+    Long(usize),
+}
 
-const READS: u16 = 1;
+/// Keys of an opening and what they hold, in the order of the keys.
+pub(crate) type Pairs<'a> = &'a [(Given<'a>, Given<'a>)];
 
-fn procedure(alloc: Global, arity: u8, reads: bool) -> Result<Procedure<Global>, Fail> {
+pub(crate) const GET: u16 = 0;
+
+pub(crate) const NEW: u16 = 1;
+
+pub(crate) const DEPOSIT: u16 = 2;
+
+pub(crate) const MOVE: u16 = 3;
+
+pub(crate) const SET: u16 = 4;
+
+pub(crate) const DELETE: u16 = 5;
+
+pub(crate) const SWAP: u16 = 6;
+
+pub(crate) const MANY_READS: u16 = 7;
+
+pub(crate) const NOTHING: u16 = 8;
+
+const NO_PROCEDURE: u16 = 9;
+
+/// An instruction of the examples, by the numbers of registers and of arguments.
+#[derive(Clone, Copy)]
+enum Line {
+    /// Register, key.
+    Reads(u8, u8),
+    /// Register, code.
+    EndsWithout(u8, u8),
+    /// Register, register, argument.
+    Adds(u8, u8, u8),
+    /// Register, register, argument.
+    Subtracts(u8, u8, u8),
+    /// Key, register.
+    Stores(u8, u8),
+    /// Key, argument.
+    Puts(u8, u8),
+    /// Key, argument.
+    Inserts(u8, u8),
+    /// Key.
+    Deletes(u8),
+}
+
+/// The procedures of the examples: how many arguments they take, and their instructions.
+const PROCEDURES: [(u8, &[Line]); 9] = [
+    (1, &[Reads(0, 0)]),
+    (2, &[Inserts(0, 1)]),
+    (
+        2,
+        &[Reads(0, 0), EndsWithout(0, 16), Adds(1, 0, 1), Stores(0, 1)],
+    ),
+    (
+        3,
+        &[
+            Reads(0, 0),
+            Reads(1, 1),
+            Subtracts(0, 0, 2),
+            Adds(1, 1, 2),
+            Stores(0, 0),
+            Stores(1, 1),
+        ],
+    ),
+    (2, &[Puts(0, 1)]),
+    (1, &[Deletes(0)]),
+    (2, &[Reads(0, 0), Puts(0, 1)]),
+    (1, &[Reads(0, 0); 64]),
+    (0, &[]),
+];
+
+fn instruction(line: Line) -> Instr<Value<Global>> {
+    match line {
+        Reads(register, key) => Instr::Read(register, Operand::Arg(key)),
+        EndsWithout(register, code) => Instr::AbortIf(Test::Absent(Operand::Reg(register)), code),
+        Adds(to, x, y) => Instr::Add(to, Operand::Reg(x), Operand::Arg(y)),
+        Subtracts(to, x, y) => Instr::Sub(to, Operand::Reg(x), Operand::Arg(y)),
+        Stores(key, register) => Instr::Put(Operand::Arg(key), Operand::Reg(register)),
+        Puts(key, value) => Instr::Put(Operand::Arg(key), Operand::Arg(value)),
+        Inserts(key, value) => Instr::Insert(Operand::Arg(key), Operand::Arg(value)),
+        Deletes(key) => Instr::Delete(Operand::Arg(key)),
+    }
+}
+
+fn procedure(alloc: Global, arity: u8, lines: &[Line]) -> Result<Procedure<Global>, NoMemory> {
     let mut code = Vec::new(alloc);
-    if reads {
-        code.push(Instr::Read(0, Operand::Arg(0)))?;
+    for line in lines {
+        code.push(instruction(*line))?;
     }
     Ok(Procedure {
         arity,
@@ -21,50 +112,88 @@ fn procedure(alloc: Global, arity: u8, reads: bool) -> Result<Procedure<Global>,
     })
 }
 
-/// A procedure that does nothing, and one that reads its argument.
-fn catalog(alloc: Global) -> Result<Catalog<Global>, Fail> {
+fn procedures(alloc: Global) -> Result<Vec<Procedure<Global>>, NoMemory> {
     let mut procedures = Vec::new(alloc);
-    procedures.push(procedure(alloc, 0, false)?)?;
-    procedures.push(procedure(alloc, 1, true)?)?;
-    Ok(Catalog::new(Sequence::new(procedures))?)
+    for (arity, lines) in PROCEDURES {
+        procedures.push(procedure(alloc, arity, lines)?)?;
+    }
+    Ok(procedures)
 }
 
-fn entry(alloc: Global, key: u8) -> Result<Entry<Global>, Fail> {
-    Ok(Entry {
-        key: Key::new(&[key]).ok_or("no key")?,
-        cell: Some(Value::of_number(alloc, u64::from(key))?),
-    })
+fn catalog(alloc: Global) -> Result<Catalog<Global>, Fail> {
+    Ok(Catalog::new(Sequence::new(procedures(alloc)?))?)
 }
 
-/// A full image with this number, in which `a` holds its own code.
-fn image(alloc: Global, number: u64, place: u64) -> Result<Image<Global>, Fail> {
-    let mut entries = Vec::new(alloc);
-    entries.push(entry(alloc, b'a')?)?;
-    Ok(Image::new(Kind::Full, number, number, place, entries).ok_or("no image")?)
+fn bytes(alloc: Global, given: Given<'_>) -> Result<Vec<u8>, NoMemory> {
+    match given {
+        Text(text) => {
+            let mut copy = Vec::new(alloc);
+            copy.extend_from_slice(text)?;
+            Ok(copy)
+        }
+        Number(number) => Ok(Value::of_number(alloc, number)?.into_bytes()),
+        Long(len) => Ok(vec![in alloc; b'a'; len]?),
+    }
 }
 
-fn opened(alloc: Global) -> Result<Core<Global>, Fail> {
-    Ok(Core::open(alloc, catalog(alloc)?, image(alloc, 0, 0)?)?)
-}
-
-/// So many arguments, each of so many bytes.
-fn arguments(alloc: Global, count: usize, bytes: usize) -> Result<Vec<Vec<u8>>, NoMemory> {
+pub(crate) fn arguments(alloc: Global, given: &[Given<'_>]) -> Result<Vec<Vec<u8>>, NoMemory> {
     let mut arguments = Vec::new(alloc);
-    for _argument in 0..count {
-        arguments.push(vec![in alloc; b'a'; bytes]?)?;
+    for one in given {
+        arguments.push(bytes(alloc, *one)?)?;
     }
     Ok(arguments)
 }
 
-/// How a begin is answered: a procedure by its index, with so many arguments of so many bytes.
+fn entry(alloc: Global, key: Given<'_>, value: Given<'_>) -> Result<Entry<Global>, Fail> {
+    Ok(Entry {
+        key: Key::new(bytes(alloc, key)?.as_slice()).ok_or("no key")?,
+        cell: Value::new(bytes(alloc, value)?),
+    })
+}
+
+/// Entries of so many keys, which are numbers of 4 bytes from 0 on and hold 0, and then these.
+fn entries(alloc: Global, numbers: u32, pairs: Pairs<'_>) -> Result<Vec<Entry<Global>>, Fail> {
+    let mut entries = Vec::new(alloc);
+    for n in 0..numbers {
+        entries.push(entry(alloc, Text(&n.to_be_bytes()), Number(0))?)?;
+    }
+    for (key, value) in pairs {
+        entries.push(entry(alloc, *key, *value)?)?;
+    }
+    Ok(entries)
+}
+
+/// A full image without keys.
+fn image(alloc: Global, number: u64, place: u64) -> Result<Image<Global>, Fail> {
+    Ok(Image::new(Kind::Full, number, number, place, Vec::new(alloc)).ok_or("no image")?)
+}
+
+/// The catalog, and an opening of so many numbers and these pairs.
+pub(crate) fn beginning(
+    alloc: Global,
+    numbers: u32,
+    pairs: Pairs<'_>,
+) -> Result<(Catalog<Global>, Image<Global>), Fail> {
+    let entries = entries(alloc, numbers, pairs)?;
+    let opening = Image::new(Kind::Full, 0, 0, 0, entries).ok_or("no image")?;
+    Ok((catalog(alloc)?, opening))
+}
+
+pub(crate) fn opened(alloc: Global, numbers: u32, pairs: Pairs<'_>) -> Result<Core<Global>, Fail> {
+    let (catalog, opening) = beginning(alloc, numbers, pairs)?;
+    Ok(Core::open(alloc, catalog, opening)?)
+}
+
+/// How a begin is answered.
 fn began(
     core: &mut Core<Global>,
+    alloc: Global,
     session: u16,
     number: u64,
     procedure: u16,
-    given: Result<Vec<Vec<u8>>, NoMemory>,
+    given: &[Given<'_>],
 ) -> Option<BeginError> {
-    match given {
+    match arguments(alloc, given) {
         Ok(given) => core.begin(session, number, procedure, given).err(),
         Err(NoMemory) => Some(BeginError::NoMemory),
     }
@@ -91,8 +220,8 @@ fn shown(core: &Core<Global>) -> (usize, usize, usize, u64) {
 
 #[test]
 fn opening(rt: HostRuntime) -> Result<(), Fail> {
-    let core = opened(rt.alloc())?;
-    assert_eq!(rt; shown(&core), (1, 0, 2, 0));
+    let core = opened(rt.alloc(), 5, &[(Text(b"a"), Number(1))])?;
+    assert_eq!(rt; shown(&core), (6, 0, 9, 0));
     Ok(())
 }
 
@@ -114,65 +243,48 @@ fn no_openings(rt: HostRuntime) -> Result<(), Fail> {
 #[test]
 fn answered(rt: HostRuntime) -> Result<(), Fail> {
     let alloc = rt.alloc();
-    let mut core = opened(alloc)?;
-    assert_eq!(rt;
-        began(&mut core, 7, 1, NOTHING, arguments(alloc, 0, 0)),
-        None
-    );
+    let mut core = opened(alloc, 0, &[])?;
+    assert_eq!(rt; began(&mut core, alloc, 7, 1, NOTHING, &[]), None);
     assert_eq!(rt; finished(&mut core, 7), Ok((0, 0, 0)));
     assert_eq!(rt; finished(&mut core, 7), Err(FinishError::NotActive));
-    assert_eq!(rt;
-        began(&mut core, 63, 1, NOTHING, arguments(alloc, 0, 0)),
-        None
-    );
+    assert_eq!(rt; began(&mut core, alloc, 63, 1, NOTHING, &[]), None);
     assert_eq!(rt; finished(&mut core, 63), Ok((1, 0, 0)));
     assert_eq!(rt; core.records().len(), 2);
     Ok(())
 }
 
 /// Begins that are refused, each where all refusals after it would come too.
-const REFUSED_BEGINS: [(u16, u64, u16, usize, usize, BeginError); 6] = [
-    (64, 1, 2, 2, 65_536, BeginError::NoSession),
-    (0, 1, 2, 2, 65_536, BeginError::NoProcedure),
-    (0, 1, READS, 2, 65_536, BeginError::Arity),
-    (0, 1, READS, 1, 65_536, BeginError::ArgSize),
-    (0, 1, READS, 1, 65_535, BeginError::SessionBusy),
-    (1, 5, READS, 1, 1, BeginError::OldNumber),
+const REFUSED_BEGINS: [(u16, u64, u16, &[Given<'static>], BeginError); 6] = [
+    (
+        64,
+        1,
+        NO_PROCEDURE,
+        &[Long(65_536), Long(65_536)],
+        BeginError::NoSession,
+    ),
+    (
+        0,
+        1,
+        NO_PROCEDURE,
+        &[Long(65_536), Long(65_536)],
+        BeginError::NoProcedure,
+    ),
+    (0, 1, GET, &[Long(65_536), Long(65_536)], BeginError::Arity),
+    (0, 1, GET, &[Long(65_536)], BeginError::ArgSize),
+    (0, 1, GET, &[Long(65_535)], BeginError::SessionBusy),
+    (1, 5, GET, &[Long(1)], BeginError::OldNumber),
 ];
 
 #[test]
 fn refused_begins(rt: HostRuntime) -> Result<(), Fail> {
     let alloc = rt.alloc();
-    let mut core = opened(alloc)?;
-    assert_eq!(rt; began(&mut core, 0, 2, READS, arguments(alloc, 1, 1)), None);
-    assert_eq!(rt;
-        began(&mut core, 1, 5, NOTHING, arguments(alloc, 0, 0)),
-        None
-    );
+    let mut core = opened(alloc, 0, &[])?;
+    assert_eq!(rt; began(&mut core, alloc, 0, 2, GET, &[Long(1)]), None);
+    assert_eq!(rt; began(&mut core, alloc, 1, 5, NOTHING, &[]), None);
     assert_eq!(rt; finished(&mut core, 1), Ok((0, 0, 0)));
-    for (session, number, procedure, count, bytes, refused) in REFUSED_BEGINS {
-        let answer = began(
-            &mut core,
-            session,
-            number,
-            procedure,
-            arguments(alloc, count, bytes),
-        );
+    for (session, number, procedure, given, refused) in REFUSED_BEGINS {
+        let answer = began(&mut core, alloc, session, number, procedure, given);
         assert_eq!(rt; answer, Some(refused));
     }
-    Ok(())
-}
-
-/// A call that isn't ready may be given up, and its number may come again.
-#[test]
-fn given_up(rt: HostRuntime) -> Result<(), Fail> {
-    let alloc = rt.alloc();
-    let mut core = opened(alloc)?;
-    assert_eq!(rt; core.give_up(3), Err(NotActive));
-    assert_eq!(rt; began(&mut core, 3, 9, READS, arguments(alloc, 1, 1)), None);
-    assert_eq!(rt; finished(&mut core, 3), Err(FinishError::NotReady));
-    assert_eq!(rt; core.give_up(3), Ok(()));
-    assert_eq!(rt; core.give_up(64), Err(NotActive));
-    assert_eq!(rt; began(&mut core, 3, 9, READS, arguments(alloc, 1, 1)), None);
     Ok(())
 }
