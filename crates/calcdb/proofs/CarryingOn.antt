@@ -1,0 +1,130 @@
+-- Commands carried out one after another.
+use Rattle.std.proofs.Common.{◌≡◌, ℕ, suc, ◌+◌, length, arith, List, [], ◌∷◌, ◌++◌, Option, Some, None, Result, Ok, Err, refl, sym, ap, subst, ◌∙◌, append_assoc}
+use Rattle.std.specs.Io.KnownBytes.{Appends}
+use Rattle.std.proofs.KnownBytes.{Appends-trans}
+use Rattle.std.proofs.lemmas.List.{append-nil}
+use Rattle.procedure.specs.Bytes.{Bytes}
+use Rattle.procedure.specs.Procedures.{Procedure}
+use Rattle.steps.specs.CoreViews.{CoreView, Finishes, OfOpen, Steps, Underway, open_at}
+use Rattle.steps.specs.Refusals.{unfinished, unstepped}
+use Rattle.steps.specs.Schedules.{BeginsAs, FinishesAs, GivesUpAs, Handles, HandlesAll, StepsAs}
+use Rattle.steps.specs.declared.errors.BeginError.{BeginError}
+use Rattle.steps.specs.declared.errors.FinishError.{FinishError}
+use Rattle.steps.specs.declared.errors.NotActive.{NotActive}
+use Rattle.steps.specs.declared.errors.StepError.{StepError}
+use Rattle.steps.specs.declared.finish.Answer.{Answer}
+use Rattle.steps.specs.declared.schedules.Event.{Event}
+use Rattle.steps.specs.declared.schedules.Event.TheVariants as event
+use Rattle.steps.specs.declared.schedules.Reply.{Reply}
+use Rattle.steps.specs.declared.step.Stepped.{Stepped}
+use Rattle.calcdb.specs.Runs.{Carried, Carries, CarriesAll, Sent}
+use Rattle.calcdb.specs.Streams.{IsBegun}
+use Rattle.calcdb.specs.declared.commands.Command.{Command}
+use Rattle.calcdb.specs.declared.faults.Fault.{Fault}
+use Rattle.calcdb.specs.declared.faults.Fault.TheVariants as fault
+
+-- THE CATALOG STAYS
+
+begin_kept : (old new : CoreView) (s n p : ℕ) (args : List Bytes) (r : Result (Unit {0}) BeginError) → BeginsAs old new s n p args r → new.catalog ≡ old.catalog
+begin_kept old new s n p args (Ok x) h = ap (λ (v : CoreView). v.catalog) h.begun
+begin_kept old new s n p args (Err e) h = ap (λ (v : CoreView). v.catalog) h.refused
+
+step_open : (old new : CoreView) (s : ℕ) (o : Option Underway) → open_at old s ≡ o → OfOpen old s (Steps old new s) → unstepped old s (open_at old s) ≡ None → new.catalog ≡ old.catalog
+step_open old new s None is h k = let bad = rw is at k in absurd (cc)
+step_open old new s (Some c) is h k = (h c is).same.catalog
+
+step_kept : (old new : CoreView) (s : ℕ) (r : Result Stepped StepError) → StepsAs old new s r → new.catalog ≡ old.catalog
+step_kept old new s (Ok x) h = step_open old new s (open_at old s) refl h.stepped h.refusal
+step_kept old new s (Err e) h = ap (λ (v : CoreView). v.catalog) h.refused
+
+finish_open : (old new : CoreView) (s : ℕ) (o : Option Underway) → open_at old s ≡ o → OfOpen old s (Finishes old new s) → unfinished old (open_at old s) ≡ None → new.catalog ≡ old.catalog
+finish_open old new s None is h k = let bad = rw is at k in absurd (cc)
+finish_open old new s (Some c) is h k = (h c is).same.catalog
+
+give_up_kept : (old new : CoreView) (s : ℕ) (r : Result (Unit {0}) NotActive) → GivesUpAs old new s r → new.catalog ≡ old.catalog
+give_up_kept old new s (Ok x) h = h.given_up.same.catalog
+give_up_kept old new s (Err e) h = ap (λ (v : CoreView). v.catalog) h.refused
+
+module _ {A : Type 0} where
+  finish_kept : (old new : CoreView) (s : ℕ) (r : Result (Answer A) FinishError) → FinishesAs old new s r → new.catalog ≡ old.catalog
+  finish_kept old new s (Ok x) h = finish_open old new s (open_at old s) refl h.finished h.refusal
+  finish_kept old new s (Err e) h = ap (λ (v : CoreView). v.catalog) h.refused
+
+  event_kept : (e : Event A) (old new : CoreView) (x : Reply A) → Handles e old new x → new.catalog ≡ old.catalog
+  event_kept (event.Begin s n p args) old new x (r, is, h) = begin_kept old new s n p _ r h
+  event_kept (event.Step s) old new x (r, is, h) = step_kept old new s r h
+  event_kept (event.Finish s) old new x (r, is, h) = finish_kept old new s r h
+  event_kept (event.GiveUp s) old new x (r, is, h) = give_up_kept old new s r h
+
+  events_kept : (es : List (Event A)) (old new : CoreView) (rs : List (Reply A)) → HandlesAll es old new rs → new.catalog ≡ old.catalog
+  events_kept [] old new [] h = ap (λ (v : CoreView). v.catalog) (sym h)
+  events_kept [] old new (r ∷ rs) h = absurd h
+  events_kept (e ∷ es) old new [] h = absurd h
+  events_kept (e ∷ es) old new (r ∷ rs) (mid, h, k) = events_kept es mid new rs k ∙ event_kept e old mid r h
+
+  -- ONE AFTER ANOTHER
+
+  handled_on : (es fs : List (Event A)) (old mid new : CoreView) (rs qs : List (Reply A)) → HandlesAll es old mid rs → HandlesAll fs mid new qs → HandlesAll (es ++ fs) old new (rs ++ qs)
+  handled_on [] fs old mid new [] qs h k = subst (λ v. HandlesAll fs v new qs) (sym h) k
+  handled_on [] fs old mid new (r ∷ rs) qs h k = absurd h
+  handled_on (e ∷ es) fs old mid new [] qs h k = absurd h
+  handled_on (e ∷ es) fs old mid new (r ∷ rs) qs (v, h, t) k = (v, h, handled_on es fs v mid new rs qs t k)
+
+  carries_more : (catalog : List Procedure) (cs : List (Command (List Bytes))) (c : Command (List Bytes)) (es fs : List (Event A)) (rs qs : List (Reply A)) (t u : Bytes) →
+      CarriesAll catalog cs es rs t → Carries catalog c fs qs u → CarriesAll catalog (cs ++ c ∷ []) (es ++ fs) (rs ++ qs) (t ++ u)
+  carries_more catalog [] c es fs rs qs t u (no_events, no_replies, no_text) h = (
+    fs,
+    [],
+    qs,
+    [],
+    u,
+    [],
+    ap (λ (l : List (Event A)). l ++ fs) no_events ∙ sym (append-nil fs),
+    ap (λ (l : List (Reply A)). l ++ qs) no_replies ∙ sym (append-nil qs),
+    ap (λ (l : Bytes). l ++ u) no_text ∙ sym (append-nil u),
+    h,
+    (refl, refl, refl),
+  )
+  carries_more catalog (d ∷ cs) c es fs rs qs t u (es1, es2, rs1, rs2, t1, t2, is_es, is_rs, is_t, first, others) h = (
+    es1,
+    es2 ++ fs,
+    rs1,
+    rs2 ++ qs,
+    t1,
+    t2 ++ u,
+    ap (λ (l : List (Event A)). l ++ fs) is_es ∙ append_assoc es1 es2 fs,
+    ap (λ (l : List (Reply A)). l ++ qs) is_rs ∙ append_assoc rs1 rs2 qs,
+    ap (λ (l : Bytes). l ++ u) is_t ∙ append_assoc t1 t2 u,
+    first,
+    carries_more catalog cs c es2 fs rs2 qs t2 u others h,
+  )
+
+  pub catalog_kept : (P : List (Event A) → List (Reply A) → Bytes → Type 0) (old new : CoreView) (text : Bytes) → Carried {A = A} P old new text → new.catalog ≡ old.catalog
+  catalog_kept P old new text c = events_kept c.events old new c.replies c.handled
+
+  pub carried_none : (catalog : List Procedure) (v : CoreView) → Carried {A = A} (CarriesAll catalog []) v v []
+  carried_none catalog v = record { events = []; replies = []; handled = refl; says = (refl, refl, refl) }
+
+  pub carried_more : (catalog : List Procedure) (cs : List (Command (List Bytes))) (c : Command (List Bytes)) (old mid new : CoreView) (t u : Bytes) →
+      Carried {A = A} (CarriesAll catalog cs) old mid t → Carried {A = A} (Carries catalog c) mid new u → Carried {A = A} (CarriesAll catalog (cs ++ c ∷ [])) old new (t ++ u)
+  carried_more catalog cs c old mid new t u h k = record {
+    events = h.events ++ k.events;
+    replies = h.replies ++ k.replies;
+    handled = handled_on h.events k.events old mid new h.replies k.replies h.handled k.handled;
+    says = carries_more catalog cs c h.events k.events h.replies k.replies t u h.says k.says;
+  }
+
+-- behind what went out whole
+begun_after : (old mid new : Option Bytes) (t u : Bytes) → Appends old mid t → IsBegun mid new u → IsBegun old new (t ++ u)
+begun_after old mid new t u h (out, left, parts, more) = (t ++ out, left, ap (λ (l : Bytes). t ++ l) parts ∙ sym (append_assoc t out left), Appends-trans old mid new t out h more)
+
+pub sent_after : (f : Fault) (old mid new : Option Bytes) (t u : Bytes) → Appends old mid t → Sent (Err f) mid new u → Sent (Err f) old new (t ++ u)
+sent_after fault.Write old mid new t u h k = begun_after old mid new t u h k
+sent_after fault.NoMemory old mid new t u h k = begun_after old mid new t u h k
+sent_after fault.Read old mid new t u h k = absurd k
+sent_after (fault.Line n) old mid new t u h k = absurd k
+sent_after fault.Size old mid new t u h k = absurd k
+sent_after (fault.Refused r) old mid new t u h k = absurd k
+
+pub length-of-cons : {X : Type 0} (xs : List X) (x : X) (ys : List X) → xs ≡ x ∷ ys → length xs ≡ length ys + 1
+length-of-cons xs x ys is = let k : length xs ≡ suc (length ys) = ap (λ l. length l) is in omega (arith, k)

@@ -1,0 +1,11 @@
+pub mod Carrying
+pub mod CarryingOn
+pub mod Decimals
+pub mod Endings
+pub mod Goings
+pub mod Lawful
+pub mod Pieces
+pub mod Printed
+pub mod Readers
+pub mod SaidLines
+pub mod WordValues

@@ -1,0 +1,7 @@
+use Rattle.std.proofs.Common.{◌≡◌, drop}
+use Rattle.calcdb.specs.Lines.{all_pass, is_allowed}
+use Rattle.calcdb.proofs.lines.is_allowed.Given as goal
+
+-- the bytes that are left decide
+abbrev pub invariant-loop-byte : goal.invariant-loop-byte
+invariant-loop-byte l = all_pass is_allowed (drop l.byte-index l.line) ≡ all_pass is_allowed l.line

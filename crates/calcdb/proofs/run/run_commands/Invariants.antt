@@ -1,0 +1,19 @@
+use Rattle.std.proofs.Common.{◌≡◌, ◌++◌, List, length}
+use Rattle.std.specs.Vec.Iter.{into_iter_items, into_iter_len}
+use Rattle.std.specs.Io.KnownBytes.{Appends}
+use Rattle.procedure.specs.Bytes.{Bytes}
+use Rattle.calcdb.specs.Runs.{Carried, CarriesAll}
+use Rattle.calcdb.specs.declared.commands.Command.{Command}
+use Rattle.calcdb.proofs.run.run_commands.Given as goal
+
+-- the commands that were carried out and those that are left are all of them
+abbrev pub invariant-loop-command : goal.invariant-loop-command
+invariant-loop-command g l = record {
+  front : List (Command (List Bytes));
+  text : Bytes;
+  parts : l.fn.commands.items ≡ front ++ into_iter_items l.command-iterator;
+  carried : Carried {A = g.row.A.Denot} (CarriesAll l.initial.core.catalog front) l.initial.core l.core text;
+  sent : Appends (g.W.Write.contents l.initial.writer) (g.W.Write.contents l.writer) text;
+  catalog : l.core.catalog ≡ l.initial.core.catalog;
+  count : into_iter_len l.command-iterator ≡ length (into_iter_items l.command-iterator);
+}

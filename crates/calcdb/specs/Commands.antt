@@ -1,0 +1,100 @@
+-- Lines of commands.
+use Rattle.std.specs.Prelude.{ℕ, ◌-◌, ◌^◌, Bool, ◌&&◌, ◌||◌, if◌then◌else◌, nat_le, codes, List, [], ◌∷◌, length, slice_index_or, Option, Some, None}
+use Rattle.std.specs.FinMap as map
+use Rattle.procedure.specs.Bytes.{Bytes}
+use Rattle.procedure.specs.Table.{KeyMap}
+use Rattle.calcdb.specs.Reads.{◌>>=◌}
+use Rattle.calcdb.specs.Lines.{all_pass, first_word, no_word}
+use Rattle.calcdb.specs.Values.{decimal_of, value_of}
+use Rattle.calcdb.specs.Instructions.{is_word}
+use Rattle.calcdb.specs.declared.commands.Command.{Command}
+use Rattle.calcdb.specs.declared.commands.Command.TheVariants as command
+use Rattle.calcdb.specs.declared.commands.NewCall.{NewCall}
+use Rattle.calcdb.specs.declared.commands.CommandName.{CommandName}
+use Rattle.calcdb.specs.declared.commands.CommandName.TheVariants as named
+
+-- the number of each procedure that is defined
+abbrev pub Names : Type 0
+Names = KeyMap ℕ
+
+abbrev pub is_letter : ℕ → Bool
+is_letter b = nat_le 97 b && nat_le b 122
+
+abbrev pub is_letter_or_digit : ℕ → Bool
+is_letter_or_digit b = is_letter b || (nat_le 48 b && nat_le b 57)
+
+-- 1 to 32 small letters and digits, the first of them a letter
+abbrev pub is_name : Bytes → Bool
+is_name w = nat_le (length w) 32 && (is_letter (slice_index_or w 0 0) && all_pass is_letter_or_digit w)
+
+abbrev pub procedure_of : Names → Bytes → Option ℕ
+procedure_of names w = if is_name w then map.get names w else None
+
+-- a session's number, and the words behind it
+abbrev pub session_at : List Bytes → Option (ℕ × List Bytes)
+session_at ws = do
+  w ← first_word ws
+  s ← decimal_of 65535 w.0
+  Some (s, w.1)
+
+abbrev pub number_at : List Bytes → Option (ℕ × List Bytes)
+number_at ws = do
+  w ← first_word ws
+  n ← decimal_of (2 ^ 64 - 1) w.0
+  Some (n, w.1)
+
+abbrev pub procedure_at : Names → List Bytes → Option (ℕ × List Bytes)
+procedure_at names ws = do
+  w ← first_word ws
+  p ← procedure_of names w.0
+  Some (p, w.1)
+
+unfoldable pub values_of : List Bytes → Option (List Bytes)
+values_of [] = Some []
+values_of (w ∷ ws) = do
+  v ← value_of w
+  vs ← values_of ws
+  Some (v ∷ vs)
+
+-- `S N PROC ARG..`
+unfoldable pub call_of : Names → List Bytes → Option (NewCall (List Bytes))
+call_of names ws = do
+  s ← session_at ws
+  n ← number_at s.1
+  p ← procedure_at names n.1
+  args ← values_of p.1
+  Some (record { session = s.0; number = n.0; procedure = p.0; args = args })
+
+-- `S` alone
+unfoldable pub session_of : List Bytes → Option ℕ
+session_of ws = do
+  s ← session_at ws
+  _ ← no_word s.1
+  Some s.0
+
+abbrev pub command_name : Bytes → Option CommandName
+command_name w =
+    if is_word w (codes "begin") then Some named.Begin
+    else if is_word w (codes "step") then Some named.Step
+    else if is_word w (codes "finish") then Some named.Finish
+    else if is_word w (codes "giveup") then Some named.GiveUp
+    else if is_word w (codes "call") then Some named.Call
+    else None
+
+abbrev pub command_at : List Bytes → Option (CommandName × List Bytes)
+command_at ws = do
+  w ← first_word ws
+  c ← command_name w.0
+  Some (c, w.1)
+
+-- the command that a line's words are
+unfoldable pub command_of : Names → List Bytes → Option (Command (List Bytes))
+command_of names ws = do
+  c ← command_at ws
+  elim c.0 [
+    | named.Begin ↦ (call_of names c.1 >>= λ n. Some (command.Begin n))
+    | named.Step ↦ (session_of c.1 >>= λ s. Some (command.Step s))
+    | named.Finish ↦ (session_of c.1 >>= λ s. Some (command.Finish s))
+    | named.GiveUp ↦ (session_of c.1 >>= λ s. Some (command.GiveUp s))
+    | named.Call ↦ (call_of names c.1 >>= λ n. Some (command.Call n))
+  ]

@@ -1,0 +1,12 @@
+pub mod CommandLines
+pub mod Commands
+pub mod Instructions
+pub mod Lines
+pub mod Runs
+pub mod Scripts
+pub mod Streams
+pub mod Outcomes
+pub mod Output
+pub mod Reads
+pub mod Reasons
+pub mod Values

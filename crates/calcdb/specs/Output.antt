@@ -1,0 +1,39 @@
+-- What is printed: values, and the answers of commands.
+use Rattle.std.specs.Prelude.{ℕ, ◌==◌, Bool, ◌&&◌, if◌then◌else◌, nat_le, codes, decimal, List, [], ◌∷◌, ◌++◌, length, Some, None}
+use Rattle.byteorder.specs.Endian.{big_number}
+use Rattle.hex.specs.Hex.{encode_lower}
+use Rattle.procedure.specs.Bytes.{Bytes, Cell}
+use Rattle.procedure.specs.declared.outcomes.TheConstants.{COMMITTED}
+use Rattle.calcdb.specs.Lines.{all_pass}
+
+-- a byte that has a sign: from `!` to `~`
+abbrev pub is_graphic : ℕ → Bool
+is_graphic b = nat_le 33 b && nat_le b 126
+
+-- `#` and a number, of 8 bytes; else `'` and the bytes, where each has a sign; else `x` and hexadecimal digits
+unfoldable pub value_text : Bytes → Bytes
+value_text v =
+    if length v == 8 then 35 ∷ decimal (big_number 8 v)
+    else if all_pass is_graphic v then 39 ∷ v
+    else 120 ∷ encode_lower v
+
+-- what is absent is printed as `-`
+abbrev pub cell_text : Cell → Bytes
+cell_text None = codes "-"
+cell_text (Some v) = value_text v
+
+-- each reply behind a space
+unfoldable pub replies_text : List Cell → Bytes
+replies_text [] = []
+replies_text (c ∷ cs) = codes " " ++ cell_text c ++ replies_text cs
+
+abbrev pub outcome_text : ℕ → Bytes
+outcome_text outcome = if outcome == COMMITTED then codes " committed" else codes " aborted " ++ decimal outcome
+
+-- a call that was finished
+abbrev pub answer_text : ℕ → ℕ → List Cell → Bytes
+answer_text place outcome replies = codes "place " ++ decimal place ++ outcome_text outcome ++ replies_text replies ++ codes "\n"
+
+-- a call that was refused, with the name of the refusal
+abbrev pub refused_text : Bytes → Bytes
+refused_text name = codes "refused " ++ name ++ codes "\n"

@@ -1,0 +1,116 @@
+-- What a script's commands do to a core, and what is printed of it.
+use Rattle.std.specs.Prelude.{◌≡◌, ◌⊎◌, ℕ, zero, suc, codes, List, [], ◌∷◌, ◌++◌, length, map, Option, Some, None, Result, Ok, Err, slice_get}
+use Rattle.procedure.specs.Bytes.{Bytes}
+use Rattle.procedure.specs.Procedures.{Procedure}
+use Rattle.steps.specs.CoreViews.{CoreView}
+use Rattle.steps.specs.Refusals.{begin_error_text, finish_error_text, step_error_text}
+use Rattle.steps.specs.Schedules.{HandlesAll}
+use Rattle.steps.specs.declared.schedules.Event.{Event}
+use Rattle.steps.specs.declared.schedules.Event.TheVariants as event
+use Rattle.steps.specs.declared.schedules.Reply.{Reply}
+use Rattle.steps.specs.declared.schedules.Reply.TheVariants as reply
+use Rattle.steps.specs.declared.errors.BeginError.{BeginError}
+use Rattle.steps.specs.declared.errors.FinishError.{FinishError}
+use Rattle.steps.specs.declared.errors.StepError.{StepError}
+use Rattle.steps.specs.declared.finish.Answer.{Answer}
+use Rattle.steps.specs.declared.step.Stepped.{Stepped}
+use Rattle.steps.specs.declared.step.Stepped.TheVariants.{Ran, Ready}
+use Rattle.std.specs.Io.KnownBytes.{Appends}
+use Rattle.calcdb.specs.Streams.{IsBegun}
+use Rattle.calcdb.specs.declared.faults.Fault.{Fault}
+use Rattle.calcdb.specs.declared.faults.Fault.TheVariants as fault
+use Rattle.calcdb.specs.Output.{answer_text, refused_text}
+use Rattle.calcdb.specs.declared.commands.Command.{Command}
+use Rattle.calcdb.specs.declared.commands.Command.TheVariants as command
+use Rattle.calcdb.specs.declared.commands.NewCall.{NewCall}
+
+-- how many instructions a procedure has
+abbrev pub count_of : Option Procedure → ℕ
+count_of None = 0
+count_of (Some p) = length p.code
+
+abbrev pub stepped_text : Stepped → Bytes
+stepped_text Ran = codes "ran\n"
+stepped_text Ready = codes "ready\n"
+
+module _ {A : Type 0} where
+  -- what is printed of one reply
+  abbrev pub reply_text : Reply A → Bytes
+  reply_text (reply.Begin (Ok x)) = codes "ok\n"
+  reply_text (reply.Begin (Err e)) = refused_text (begin_error_text e)
+  reply_text (reply.Step (Ok s)) = stepped_text s
+  reply_text (reply.Step (Err e)) = refused_text (step_error_text e)
+  reply_text (reply.Finish (Ok a)) = answer_text a.place a.outcome a.replies
+  reply_text (reply.Finish (Err e)) = refused_text (finish_error_text e)
+  reply_text (reply.GiveUp (Ok x)) = codes "ok\n"
+  reply_text (reply.GiveUp (Err e)) = refused_text (codes "not active")
+
+  -- the event by which a call begins
+  abbrev pub Begins : NewCall (List Bytes) → Event A → Type 0
+  Begins c (event.Begin s n p args) = (s ≡ c.session) × (n ≡ c.number) × (p ≡ c.procedure) × (map (λ v. v.items) args.items ≡ c.args)
+  Begins c (event.Step s) = ⊥
+  Begins c (event.Finish s) = ⊥
+  Begins c (event.GiveUp s) = ⊥
+
+  -- the end of a call: one event, and where its reply is a refusal one by which the call is given up
+  abbrev pub Ends : ℕ → List (Event A) → List (Reply A) → Bytes → Type 0
+  Ends s es rs text =
+      ((a : Answer A) × (es ≡ event.Finish s ∷ []) × (rs ≡ reply.Finish (Ok a) ∷ []) × (text ≡ answer_text a.place a.outcome a.replies))
+      ⊎ ((e : FinishError) × (r : Reply A) × (es ≡ event.Finish s ∷ event.GiveUp s ∷ []) × (rs ≡ reply.Finish (Err e) ∷ r ∷ []) × (text ≡ refused_text (finish_error_text e)))
+
+  -- a call that has begun and has at most so many instructions left: steps until one answers that it is ready, and its end; where a step is refused the call is given up
+  abbrev pub GoesOn : ℕ → ℕ → List (Event A) → List (Reply A) → Bytes → Type 0
+  GoesOn zero s es rs text = Ends s es rs text
+  GoesOn (suc n) s es rs text =
+      ((fs : List (Event A)) × (qs : List (Reply A)) × (es ≡ event.Step s ∷ fs) × (rs ≡ reply.Step (Ok Ran) ∷ qs) × GoesOn n s fs qs text)
+      ⊎ ((fs : List (Event A)) × (qs : List (Reply A)) × (es ≡ event.Step s ∷ fs) × (rs ≡ reply.Step (Ok Ready) ∷ qs) × Ends s fs qs text)
+      ⊎ ((e : StepError) × (r : Reply A) × (es ≡ event.Step s ∷ event.GiveUp s ∷ []) × (rs ≡ reply.Step (Err e) ∷ r ∷ []) × (text ≡ refused_text (step_error_text e)))
+
+  -- the whole of a call
+  abbrev pub Calls : List Procedure → NewCall (List Bytes) → List (Event A) → List (Reply A) → Bytes → Type 0
+  Calls catalog c es rs text =
+      ((e : BeginError) × (b : Event A) × Begins c b × (es ≡ b ∷ []) × (rs ≡ reply.Begin (Err e) ∷ []) × (text ≡ refused_text (begin_error_text e)))
+      ⊎ ((b : Event A) × (fs : List (Event A)) × (qs : List (Reply A)) × Begins c b × (es ≡ b ∷ fs) × (rs ≡ reply.Begin (Ok tt) ∷ qs) × GoesOn (count_of (slice_get catalog c.procedure)) c.session fs qs text)
+
+  -- one event, and what is printed of its reply
+  abbrev pub Says : Event A → List (Event A) → List (Reply A) → Bytes → Type 0
+  Says e es rs text = (r : Reply A) × (es ≡ e ∷ []) × (rs ≡ r ∷ []) × (text ≡ reply_text r)
+
+  -- the events that a command is, with their replies, and what is printed of them
+  abbrev pub Carries : List Procedure → Command (List Bytes) → List (Event A) → List (Reply A) → Bytes → Type 0
+  Carries catalog (command.Begin c) es rs text = (b : Event A) × Begins c b × Says b es rs text
+  Carries catalog (command.Step s) es rs text = Says (event.Step s) es rs text
+  Carries catalog (command.Finish s) es rs text = Says (event.Finish s) es rs text
+  Carries catalog (command.GiveUp s) es rs text = Says (event.GiveUp s) es rs text
+  Carries catalog (command.Call c) es rs text = Calls catalog c es rs text
+
+  -- the commands, one after another
+  abbrev pub CarriesAll : List Procedure → List (Command (List Bytes)) → List (Event A) → List (Reply A) → Bytes → Type 0
+  CarriesAll catalog [] es rs text = (es ≡ []) × (rs ≡ []) × (text ≡ [])
+  CarriesAll catalog (c ∷ cs) es rs text =
+      (fs : List (Event A)) × (gs : List (Event A)) × (qs : List (Reply A)) × (ps : List (Reply A)) × (first : Bytes) × (others : Bytes) × (es ≡ fs ++ gs) × (rs ≡ qs ++ ps) × (text ≡ first ++ others) × Carries catalog c fs qs first × CarriesAll catalog cs gs ps others
+
+  -- events that a core carried out, and what is printed of them
+  pub record Carried (P : List (Event A) → List (Reply A) → Bytes → Type 0) (old new : CoreView) (text : Bytes) : Type 0 where
+    pub events : List (Event A)
+    pub replies : List (Reply A)
+    pub handled : HandlesAll events old new replies
+    pub says : P events replies text
+
+module _ (A : Type 0) where
+  -- some of the commands from the front on, carried out
+  pub record HasRun (catalog : List Procedure) (commands : List (Command (List Bytes))) (old new : CoreView) (text : Bytes) : Type 0 where
+    pub front : List (Command (List Bytes))
+    pub left : List (Command (List Bytes))
+    pub parts : commands ≡ front ++ left
+    pub carried : Carried {A = A} (CarriesAll catalog front) old new text
+
+-- what went out, by how the writing ended: all of the text, or a beginning of it
+abbrev pub Sent : Result (Unit {0}) Fault → Option Bytes → Option Bytes → Bytes → Type 0
+Sent (Ok x) old new text = Appends old new text
+Sent (Err fault.Write) old new text = IsBegun old new text
+Sent (Err fault.NoMemory) old new text = IsBegun old new text
+Sent (Err fault.Read) old new text = ⊥
+Sent (Err (fault.Line n)) old new text = ⊥
+Sent (Err fault.Size) old new text = ⊥
+Sent (Err (fault.Refused r)) old new text = ⊥

@@ -1,0 +1,173 @@
+//! A run of a script, from its reader to its writer.
+
+ghost use Rattle.std.specs.Prelude.{◌≡◌, ◌⊎◌, ◌++◌, [], IfErr, IfOk, OnErr, OnOk, Some, true, Ok};
+ghost use Rattle.std.specs.Io.KnownBytes.{Appends};
+ghost use Rattle.procedure.specs.Bytes.{Bytes};
+ghost use Rattle.steps.specs.Openings.{IsOpened, is_opening};
+ghost use Rattle.steps.specs.CoreViews.{CoreView};
+ghost use Rattle.calcdb.specs.Outcomes.{EndsAs, HasLine, Refuses, RefusesScript, RunsTo, StopsAs, fault_text};
+ghost use Rattle.calcdb.specs.Reasons.{reason_text};
+ghost use Rattle.calcdb.specs.Scripts.{script_of};
+ghost use Rattle.calcdb.specs.Runs.{Carried, CarriesAll};
+ghost use Rattle.calcdb.specs.declared.faults.Fault.TheVariants as fault;
+
+use crate::faults::{Fault, Reason};
+use crate::output::{push_decimal, push_text};
+use crate::run::run_commands;
+use crate::scripts::{Script, ScriptFault, read_script};
+use crate::streams::{ReadError, WriteError, read_text, write_out};
+use image::{Image, Kind};
+use procedure::NoMemory;
+use std::alloc::Allocator;
+use std::io::{Read, Write};
+use steps::Core;
+
+/// What a run leaves: the core, and the images that were taken, in order.
+#[derive(Drop)]
+pub struct Ran<A: Allocator> {
+    pub core: Core<A>,
+    pub images: Vec<Image<A>, A>,
+}
+
+/// Whether an image is one to open from: full, with number, base and place 0.
+fn is_opening<A: Allocator>(image: &Image<A>) -> bool
+    ensures { result ≡ is_opening image.now }
+{
+    match image.kind() {
+        Kind::Full => image.number() == 0 && image.base() == 0 && image.place() == 0,
+        Kind::Partial => false,
+    }
+}
+
+/// A reason's name, behind what is there.
+fn push_reason<A: Allocator + Clone>(line: &mut Vec<u8, A>, reason: Reason) -> Result<(), NoMemory>
+    ensures { OnOk result (line.new.items ≡ line.old.items ++ reason_text reason) }
+{
+    let alloc = line.allocator().clone()?;
+    let name = reason.to_string(alloc)?;
+    push_text(line, name.as_str().as_bytes())
+}
+
+/// The one line of a fault, behind what is there; nothing where it has none.
+fn push_fault<A: Allocator + Clone>(line: &mut Vec<u8, A>, fault: &Fault) -> Result<(), NoMemory>
+    ensures { OnOk result (line.new.items ≡ line.old.items ++ fault_text fault.now) }
+{
+    match fault {
+        Fault::Line(number) => {
+            push_text(line, b"fault line ")?;
+            push_decimal(line, *number)?;
+            push_text(line, b"\n")
+        }
+        Fault::Size => push_text(line, b"fault size\n"),
+        Fault::Refused(reason) => {
+            push_text(line, b"refused ")?;
+            push_reason(line, *reason)?;
+            push_text(line, b"\n")
+        }
+        Fault::Read | Fault::Write | Fault::NoMemory => Ok(()),
+    }
+}
+
+/// Writes the one line of a fault, which is the answer unless that fails.
+fn refuse<W: Write, A: Allocator + Clone>(alloc: A, writer: &mut W, fault: Fault) -> Fault
+    requires { HasLine fault }
+    ensures { Refuses fault (W.contents writer.old) (W.contents writer.new) result }
+{
+    let mut line = Vec::new(alloc);
+    match push_fault(&mut line, &fault) {
+        Ok(()) => {}
+        Err(NoMemory) => return Fault::NoMemory,
+    }
+    match write_out(writer, line.as_slice()) {
+        Ok(()) => fault,
+        Err(WriteError) => Fault::Write,
+    }
+}
+
+/// Writes the one line of a text that is no script.
+fn refuse_script<W: Write, A: Allocator + Clone>(
+    alloc: A,
+    writer: &mut W,
+    fault: ScriptFault,
+) -> Fault
+    ensures { RefusesScript fault (W.contents writer.old) (W.contents writer.new) result }
+{
+    match fault {
+        ScriptFault::Line(number) => refuse(alloc, writer, Fault::Line(number)),
+        ScriptFault::Size => refuse(alloc, writer, Fault::Size),
+        ScriptFault::NoMemory => Fault::NoMemory,
+    }
+}
+
+/// Carries out a script on a core that is opened for it.
+fn run_opened<W: Write, A: Allocator + Copy>(
+    alloc: A,
+    writer: &mut W,
+    script: Script<A>,
+    opening: Image<A>,
+) -> Result<Ran<A>, Fault>
+    requires { is_opening opening ≡ true }
+    ensures ok { IfOk result (λ r. (first : CoreView) × (text : Bytes) × IsOpened script.catalog opening first × Carried {A = A} (CarriesAll script.catalog script.commands) first r.core text × Appends (W.contents writer.old) (W.contents writer.new) text) }
+    ensures images { IfOk result (λ r. r.images.items ≡ []) }
+    ensures err { IfErr result (λ f. StopsAs A script opening (W.contents writer.old) (W.contents writer.new) f) }
+{
+    let Script { catalog, commands } = script;
+    let mut core = match Core::open(alloc, catalog, opening) {
+        Ok(core) => core,
+        // The opening is one, so memory was wanting.
+        Err(_) => return Err(Fault::NoMemory),
+    };
+    match run_commands(alloc, &mut core, writer, commands.into_vec()) {
+        Ok(()) => Ok(Ran {
+            core,
+            images: Vec::new(alloc),
+        }),
+        Err(fault) => Err(fault),
+    }
+}
+
+/// Checks a text and carries it out.
+fn run_text<W: Write, A: Allocator + Copy>(
+    alloc: A,
+    writer: &mut W,
+    text: &[u8],
+    opening: Image<A>,
+) -> Result<Ran<A>, Fault>
+    requires { is_opening opening ≡ true }
+    ensures run { IfOk result (λ r. (out : Bytes) × RunsTo A (script_of text.now) opening r.core out × Appends (W.contents writer.old) (W.contents writer.new) out) }
+    ensures images { IfOk result (λ r. r.images.items ≡ []) }
+    ensures fault { IfErr result (λ f. EndsAs A (script_of text.now) opening (W.contents writer.old) (W.contents writer.new) f) }
+{
+    match read_script(alloc, text) {
+        Ok(script) => run_opened(alloc, writer, script, opening),
+        Err(fault) => Err(refuse_script(alloc, writer, fault)),
+    }
+}
+
+/// Runs the script that a reader gives on a core that is opened from an image, and writes the line of
+/// each command's answer before it begins the next. The opening is looked at first, then the whole text;
+/// where one of them is faulty, one line says so and nothing else is written. A read or write that fails,
+/// by an interruption too, and a write of no byte end the run.
+pub fn run_script<R: Read, W: Write, A: Allocator + Copy>(
+    alloc: A,
+    reader: &mut R,
+    writer: &mut W,
+    opening: Image<A>,
+) -> Result<Ran<A>, Fault>
+    // Where the reader tells its bytes: all of the script was carried out, and its answers written.
+    ensures run { IfOk result (λ r. (source : Bytes) → R.remaining reader.old ≡ Some source → (text : Bytes) × RunsTo A (script_of source) opening r.core text × Appends (W.contents writer.old) (W.contents writer.new) text) }
+    ensures images { IfOk result (λ r. r.images.items ≡ []) }
+    // And else the one line of the fault, or a beginning of the answers.
+    ensures fault { IfErr result (λ f. (source : Bytes) → R.remaining reader.old ≡ Some source → EndsAs A (script_of source) opening (W.contents writer.old) (W.contents writer.new) f) }
+{
+    if !is_opening(&opening) {
+        let refused = Fault::Refused(Reason::NotAnOpening);
+        return Err(refuse(alloc, writer, refused));
+    }
+    let text = match read_text(alloc, reader) {
+        Ok(text) => text,
+        Err(ReadError::Read) => return Err(Fault::Read),
+        Err(ReadError::NoMemory) => return Err(Fault::NoMemory),
+    };
+    run_text(alloc, writer, text.as_slice(), opening)
+}

@@ -1,0 +1,121 @@
+//! A text as lines, and a line as words.
+
+ghost use Rattle.std.specs.Prelude.{◌≡◌, ◌<◌, ◌∷◌, length, option_map, position, IfSome};
+ghost use Rattle.calcdb.specs.Reads.{Gives};
+ghost use Rattle.calcdb.specs.Lines as spec;
+ghost use Rattle.calcdb.specs.Lines.{left_pieces, pieces, words};
+
+use crate::unread::Unread;
+
+fn is_line_feed(byte: u8) -> bool
+    ensures { result ≡ spec.is_line_feed byte }
+{
+    byte == b'\n'
+}
+
+/// Whether a byte parts words.
+fn is_blank(byte: u8) -> bool
+    ensures { result ≡ spec.is_blank byte }
+{
+    byte == b' ' || byte == b'\t'
+}
+
+fn line_end(text: &[u8]) -> Option<usize>
+    ensures { result ≡ position spec.is_line_feed text.now }
+{
+    text.iter().position(|byte| is_line_feed(*byte))
+}
+
+fn word_end(line: &[u8]) -> Option<usize>
+    ensures { result ≡ position spec.is_blank line.now }
+{
+    line.iter().position(|byte| is_blank(*byte))
+}
+
+/// The first line of a text, and what stands behind its line feed, if it has one.
+pub fn line_at(text: &[u8]) -> (&[u8], Option<&[u8]>)
+    ensures pieces { pieces spec.is_line_feed text.now ≡ result.0.now ∷ left_pieces spec.is_line_feed (option_map (λ r. r.now) result.1) }
+    ensures shorter { IfSome result.1 (λ r. length r.now < length text.now) }
+{
+    match line_end(text) {
+        Some(at) => (&text[..at], Some(&text[at + 1..])),
+        None => (text, None),
+    }
+}
+
+/// What stands before the first blank of a line, and what behind it, if there is one.
+fn piece_at(line: &[u8]) -> (&[u8], Option<&[u8]>)
+    ensures pieces { pieces spec.is_blank line.now ≡ result.0.now ∷ left_pieces spec.is_blank (option_map (λ r. r.now) result.1) }
+    ensures shorter { IfSome result.1 (λ r. length r.now < length line.now) }
+{
+    match word_end(line) {
+        Some(at) => (&line[..at], Some(&line[at + 1..])),
+        None => (line, None),
+    }
+}
+
+/// A line without the carriage return at its end.
+pub fn without_return(line: &[u8]) -> &[u8]
+    ensures { result.now ≡ spec.without_return line.now }
+{
+    match line {
+        [front @ .., b'\r'] => front,
+        _ => line,
+    }
+}
+
+/// Whether all bytes are such that a line may have.
+pub fn is_allowed(line: &[u8]) -> bool
+    ensures { result ≡ spec.all_pass spec.is_allowed line.now }
+{
+    for byte in line {
+        if !(*byte == b'\t' || (b' '..=b'~').contains(byte)) {
+            return false;
+        }
+    }
+    true
+}
+
+/// The first word of a line, if it has one, and what stands behind it.
+pub fn first_word(line: &[u8]) -> Option<(&[u8], &[u8])>
+    ensures words { option_map (λ p. (p.0.now, words p.1.now)) result ≡ spec.first_word (words line.now) }
+    ensures shorter { IfSome result (λ p. length p.1.now < length line.now) }
+{
+    let mut rest = line;
+    loop {
+        let (piece, behind) = piece_at(rest);
+        match behind {
+            Some(after) if piece.is_empty() => rest = after,
+            Some(after) => return Some((piece, after)),
+            None if piece.is_empty() => return None,
+            None => return Some((piece, &piece[piece.len()..])),
+        }
+    }
+}
+
+/// The first word of a line, and what stands behind it.
+pub fn word_at(line: &[u8]) -> Result<(&[u8], &[u8]), Unread>
+    ensures { Gives (λ p. (p.0.now, words p.1.now)) result (spec.first_word (words line.now)) }
+{
+    first_word(line).ok_or(Unread::Faulty)
+}
+
+/// Nothing, where no word is left.
+pub fn end_of(line: &[u8]) -> Result<(), Unread>
+    ensures { Gives (λ p. p) result (spec.no_word (words line.now)) }
+{
+    match first_word(line) {
+        Some(_) => Err(Unread::Faulty),
+        None => Ok(()),
+    }
+}
+
+/// Whether a line says nothing: it has no word, or its first one begins with `;`.
+pub fn is_skipped(line: &[u8]) -> bool
+    ensures { result ≡ spec.is_skipped (words line.now) }
+{
+    match first_word(line) {
+        Some((word, _)) => word.first() == Some(&b';'),
+        None => true,
+    }
+}

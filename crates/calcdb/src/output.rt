@@ -1,0 +1,127 @@
+//! Printed values and answers.
+
+ghost use Rattle.std.specs.Prelude.{◌≡◌, ◌++◌, OnOk, codes, decimal};
+ghost use Rattle.hex.specs.Hex.{encode_lower};
+ghost use Rattle.calcdb.specs.Lines.{all_pass};
+ghost use Rattle.calcdb.specs.Output as spec;
+
+use byteorder::{BigEndian, ByteOrder};
+use itoa::Buffer;
+use procedure::outcomes::COMMITTED;
+use procedure::{NoMemory, Value};
+use std::alloc::Allocator;
+
+/// Whether each byte has a sign: from `!` to `~`.
+fn is_graphic(bytes: &[u8]) -> bool
+    ensures { result ≡ all_pass spec.is_graphic bytes.now }
+{
+    for byte in bytes {
+        if !matches!(*byte, b'!'..=b'~') {
+            return false;
+        }
+    }
+    true
+}
+
+pub fn push_text<A: Allocator>(out: &mut Vec<u8, A>, text: &[u8]) -> Result<(), NoMemory>
+    ensures { OnOk result (out.new.items ≡ out.old.items ++ text.now) }
+{
+    out.extend_from_slice(text)?;
+    Ok(())
+}
+
+pub fn push_decimal<A: Allocator>(out: &mut Vec<u8, A>, number: u64) -> Result<(), NoMemory>
+    ensures { OnOk result (out.new.items ≡ out.old.items ++ decimal number) }
+{
+    let mut buffer = Buffer::new();
+    push_text(out, buffer.format(number).as_bytes())
+}
+
+fn push_hex<A: Allocator + Clone>(out: &mut Vec<u8, A>, bytes: &[u8]) -> Result<(), NoMemory>
+    ensures { OnOk result (out.new.items ≡ out.old.items ++ encode_lower bytes.now) }
+{
+    let alloc = out.allocator().clone()?;
+    let digits = hex::encode(alloc, bytes)?;
+    push_text(out, digits.as_str().as_bytes())
+}
+
+/// A value: `#` and a number, of 8 bytes; else `'` and the bytes, where each has a sign; else `x` and
+/// hexadecimal digits.
+#[tactic(auto, unfolding(crate::specs::Output::value_text))]
+pub fn push_value<A: Allocator + Clone>(out: &mut Vec<u8, A>, value: &[u8]) -> Result<(), NoMemory>
+    ensures { OnOk result (out.new.items ≡ out.old.items ++ spec.value_text value.now) }
+{
+    if value.len() == 8 {
+        push_text(out, b"#")?;
+        push_decimal(out, BigEndian::read_u64(value))
+    } else if is_graphic(value) {
+        push_text(out, b"'")?;
+        push_text(out, value)
+    } else {
+        push_text(out, b"x")?;
+        push_hex(out, value)
+    }
+}
+
+/// A value, or `-`.
+fn push_cell<A: Allocator + Clone, B: Allocator>(
+    out: &mut Vec<u8, A>,
+    cell: &Option<Value<B>>,
+) -> Result<(), NoMemory>
+    ensures { OnOk result (out.new.items ≡ out.old.items ++ spec.cell_text cell.now) }
+{
+    match cell {
+        Some(value) => push_value(out, value.as_bytes()),
+        None => push_text(out, b"-"),
+    }
+}
+
+/// Each reply behind a space.
+fn push_replies<A: Allocator + Clone, B: Allocator>(
+    out: &mut Vec<u8, A>,
+    replies: &[Option<Value<B>>],
+) -> Result<(), NoMemory>
+    ensures { OnOk result (out.new.items ≡ out.old.items ++ spec.replies_text replies.now) }
+{
+    for reply in replies {
+        push_text(out, b" ")?;
+        push_cell(out, reply)?;
+    }
+    Ok(())
+}
+
+fn push_outcome<A: Allocator>(out: &mut Vec<u8, A>, outcome: u8) -> Result<(), NoMemory>
+    ensures { OnOk result (out.new.items ≡ out.old.items ++ spec.outcome_text outcome) }
+{
+    if outcome == COMMITTED {
+        push_text(out, b" committed")
+    } else {
+        push_text(out, b" aborted ")?;
+        push_decimal(out, u64::from(outcome))
+    }
+}
+
+/// The line of a call that was finished: its place in the log, its outcome, and its replies.
+pub fn push_answer<A: Allocator + Clone, B: Allocator>(
+    out: &mut Vec<u8, A>,
+    place: u64,
+    outcome: u8,
+    replies: &[Option<Value<B>>],
+) -> Result<(), NoMemory>
+    ensures { OnOk result (out.new.items ≡ out.old.items ++ spec.answer_text place outcome replies.now) }
+{
+    push_text(out, b"place ")?;
+    push_decimal(out, place)?;
+    push_outcome(out, outcome)?;
+    push_replies(out, replies)?;
+    push_text(out, b"\n")
+}
+
+/// The line of a refusal.
+pub fn push_refusal<A: Allocator>(out: &mut Vec<u8, A>, name: &[u8]) -> Result<(), NoMemory>
+    ensures { OnOk result (out.new.items ≡ out.old.items ++ spec.refused_text name.now) }
+{
+    push_text(out, b"refused ")?;
+    push_text(out, name)?;
+    push_text(out, b"\n")
+}

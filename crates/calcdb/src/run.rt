@@ -1,0 +1,199 @@
+//! The commands of a script, carried out on a core.
+
+ghost use Rattle.std.specs.Prelude.{◌≡◌, ◌++◌, OnErr, OnOk, slice_get};
+ghost use Rattle.std.specs.Io.KnownBytes.{Appends};
+ghost use Rattle.procedure.specs.Bytes.{Bytes};
+ghost use Rattle.steps.specs.Refusals.{begin_error_text, finish_error_text, step_error_text};
+ghost use Rattle.calcdb.specs.Runs.{Calls, Carried, Carries, CarriesAll, Ends, GoesOn, HasRun, Sent, count_of, reply_text};
+
+use crate::commands::{Arguments, Command, NewCall};
+use crate::faults::Fault;
+use crate::output::{push_answer, push_refusal, push_text};
+use crate::streams::{WriteError, write_out};
+use procedure::NoMemory;
+use std::alloc::Allocator;
+use std::io::Write;
+use steps::schedules::Reply;
+use steps::{BeginError, Core, FinishError, NotActive, StepError, Stepped};
+
+/// How many instructions a procedure of the core has; 0 where there is none.
+fn count_of<A: Allocator>(core: &Core<A>, procedure: u16) -> usize
+    ensures { result ≡ count_of (slice_get core.now.catalog procedure) }
+{
+    match core.catalog().get(usize::from(procedure)) {
+        Some(procedure) => procedure.code.len(),
+        None => 0,
+    }
+}
+
+/// Answers a session's call; it is given up where that is refused.
+fn end_call<A: Allocator + Clone>(core: &mut Core<A>, session: u16) -> Reply<A>
+    ensures { Carried {A = A} (Ends session) core.old core.new (reply_text result) }
+{
+    match core.finish(session) {
+        Ok(answer) => Reply::Finish(Ok(answer)),
+        Err(refused) => {
+            let _given_up = core.give_up(session);
+            Reply::Finish(Err(refused))
+        }
+    }
+}
+
+/// Steps of a session's call until it is ready, so many at most, and its end; it is given up where a
+/// step is refused.
+fn go_on<A: Allocator + Clone>(core: &mut Core<A>, session: u16, count: usize) -> Reply<A>
+    ensures { Carried {A = A} (GoesOn count session) core.old core.new (reply_text result) }
+{
+    for _ in 0..count {
+        match core.step(session) {
+            Ok(Stepped::Ran) => {}
+            Ok(Stepped::Ready) => return end_call(core, session),
+            Err(refused) => {
+                let _given_up = core.give_up(session);
+                return Reply::Step(Err(refused));
+            }
+        }
+    }
+    end_call(core, session)
+}
+
+/// Begins a call, executes it and answers it.
+fn run_call<A: Allocator + Clone>(core: &mut Core<A>, call: NewCall<Arguments<A>>) -> Reply<A>
+    ensures { Carried {A = A} (Calls core.old.catalog call) core.old core.new (reply_text result) }
+{
+    let NewCall {
+        session,
+        number,
+        procedure,
+        args,
+    } = call;
+    let count = count_of(core, procedure);
+    match core.begin(session, number, procedure, args.into_values()) {
+        Ok(()) => go_on(core, session, count),
+        Err(refused) => Reply::Begin(Err(refused)),
+    }
+}
+
+/// Carries out a command, and hands on the reply that is printed.
+fn carry_out<A: Allocator + Clone>(core: &mut Core<A>, command: Command<Arguments<A>>) -> Reply<A>
+    ensures { Carried {A = A} (Carries core.old.catalog command) core.old core.new (reply_text result) }
+{
+    match command {
+        Command::Begin(call) => {
+            let NewCall {
+                session,
+                number,
+                procedure,
+                args,
+            } = call;
+            Reply::Begin(core.begin(session, number, procedure, args.into_values()))
+        }
+        Command::Step(session) => Reply::Step(core.step(session)),
+        Command::Finish(session) => Reply::Finish(core.finish(session)),
+        Command::GiveUp(session) => Reply::GiveUp(core.give_up(session)),
+        Command::Call(call) => run_call(core, call),
+    }
+}
+
+fn begin_error_name(refused: BeginError) -> &'static [u8]
+    ensures { result.now ≡ begin_error_text refused }
+{
+    match refused {
+        BeginError::NoSession => b"no session",
+        BeginError::NoProcedure => b"no procedure",
+        BeginError::Arity => b"arity",
+        BeginError::ArgSize => b"arg size",
+        BeginError::SessionBusy => b"session busy",
+        BeginError::OldNumber => b"old number",
+        BeginError::NoMemory => b"no memory",
+    }
+}
+
+fn step_error_name(refused: StepError) -> &'static [u8]
+    ensures { result.now ≡ step_error_text refused }
+{
+    match refused {
+        StepError::NotActive => b"not active",
+        StepError::AlreadyReady => b"already ready",
+        StepError::Conflict => b"conflict",
+        StepError::TableFull => b"table full",
+        StepError::NoMemory => b"no memory",
+    }
+}
+
+fn finish_error_name(refused: FinishError) -> &'static [u8]
+    ensures { result.now ≡ finish_error_text refused }
+{
+    match refused {
+        FinishError::NotActive => b"not active",
+        FinishError::NotReady => b"not ready",
+        FinishError::LogFull => b"log full",
+        FinishError::NoMemory => b"no memory",
+    }
+}
+
+/// The line that is printed of a reply.
+fn push_reply<A: Allocator + Clone>(out: &mut Vec<u8, A>, reply: &Reply<A>) -> Result<(), NoMemory>
+    ensures { OnOk result (out.new.items ≡ out.old.items ++ reply_text reply.now) }
+{
+    match reply {
+        Reply::Begin(Ok(())) | Reply::GiveUp(Ok(())) => push_text(out, b"ok\n"),
+        Reply::Step(Ok(Stepped::Ran)) => push_text(out, b"ran\n"),
+        Reply::Step(Ok(Stepped::Ready)) => push_text(out, b"ready\n"),
+        Reply::Finish(Ok(answer)) => push_answer(
+            out,
+            answer.place as u64,
+            answer.outcome,
+            answer.replies.as_slice(),
+        ),
+        Reply::Begin(Err(refused)) => push_refusal(out, begin_error_name(*refused)),
+        Reply::Step(Err(refused)) => push_refusal(out, step_error_name(*refused)),
+        Reply::Finish(Err(refused)) => push_refusal(out, finish_error_name(*refused)),
+        Reply::GiveUp(Err(NotActive)) => push_refusal(out, b"not active"),
+    }
+}
+
+/// The line that is printed of a reply, in place of what was there.
+fn print_line<A: Allocator + Clone>(line: &mut Vec<u8, A>, reply: &Reply<A>) -> Result<(), NoMemory>
+    ensures { OnOk result (line.new.items ≡ reply_text reply.now) }
+{
+    line.clear();
+    push_reply(line, reply)
+}
+
+/// Carries out a command and writes the line that is printed of it.
+fn answer<W: Write, A: Allocator + Clone>(
+    core: &mut Core<A>,
+    writer: &mut W,
+    line: &mut Vec<u8, A>,
+    command: Command<Arguments<A>>,
+) -> Result<(), Fault>
+    ensures { (text : Bytes) × Carried {A = A} (Carries core.old.catalog command) core.old core.new text × Sent result (W.contents writer.old) (W.contents writer.new) text }
+{
+    let reply = carry_out(core, command);
+    match print_line(line, &reply) {
+        Ok(()) => {}
+        Err(NoMemory) => return Err(Fault::NoMemory),
+    }
+    match write_out(writer, line.as_slice()) {
+        Ok(()) => Ok(()),
+        Err(WriteError) => Err(Fault::Write),
+    }
+}
+
+/// Carries out the commands, each after the line of the one before was written.
+pub fn run_commands<W: Write, A: Allocator + Clone>(
+    alloc: A,
+    core: &mut Core<A>,
+    writer: &mut W,
+    commands: Vec<Command<Arguments<A>>, A>,
+) -> Result<(), Fault>
+    ensures ok { OnOk result ((text : Bytes) × Carried {A = A} (CarriesAll core.old.catalog commands.items) core.old core.new text × Appends (W.contents writer.old) (W.contents writer.new) text) }
+    ensures err { OnErr result ((text : Bytes) × HasRun A core.old.catalog commands.items core.old core.new text × Sent result (W.contents writer.old) (W.contents writer.new) text) }
+{
+    let mut line = Vec::new(alloc);
+    for command in commands {
+        answer(core, writer, &mut line, command)?;
+    }
+    Ok(())
+}
