@@ -25,6 +25,8 @@ pub struct Run<A: Allocator> {
     pub core: Core<A>,
     /// One reply for each event, in order.
     pub answers: Vec<Reply<A>, A>,
+    /// The images that were taken, in order. No event takes one yet.
+    pub images: Vec<Image<A>, A>,
 }
 
 /// The events, one after another; their replies go into the list, which has room for them.
@@ -60,6 +62,7 @@ pub fn drive<A: Allocator + Copy>(
     ensures small { IfOk result (λ r. IsSmall r.core.catalog (table_of r.core.opening) r.core.log) }
     ensures calls { IfOk result (λ r. calls_of r.core.log ≡ map (λ x. x.1) (answered_calls events.items r.answers.items (replicate SESSIONS None))) }
     ensures places { IfOk result (λ r. EachStands r.core.log (answered_calls events.items r.answers.items (replicate SESSIONS None))) }
+    ensures images { IfOk result (λ r. r.images.items ≡ []) }
     ensures refusal { Answers (unless (is_opening opening) refused.NotAnOpening) refused.NoMemory result }
 {
     let mut core = Core::open(alloc, catalog, opening)?;
@@ -70,5 +73,9 @@ pub fn drive<A: Allocator + Copy>(
     handle_all(&mut core, events, &mut answers);
     // Brings in what holds of the log of every core.
     let _records = core.records();
-    Ok(Run { core, answers })
+    Ok(Run {
+        core,
+        answers,
+        images: Vec::new(alloc),
+    })
 }
