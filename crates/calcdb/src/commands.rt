@@ -32,6 +32,7 @@ impl<A: Allocator> Model for Arguments<A> {
 }
 
 impl<A: Allocator> Arguments<A> {
+    /// The arguments, by move.
     pub fn into_values(self) -> Vec<Vec<u8, A>, A>
         ensures { map (λ v. v.items) result.items ≡ self }
     {

@@ -34,6 +34,7 @@ pub enum TestName {
     Below,
 }
 
+/// Whether a word is this one, byte by byte.
 pub fn is_word(word: &[u8], name: &[u8]) -> bool
     ensures { result ≡ spec.is_word word.now name.now }
 {

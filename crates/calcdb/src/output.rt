@@ -23,6 +23,7 @@ fn is_graphic(bytes: &[u8]) -> bool
     true
 }
 
+/// A text, behind what is there.
 pub fn push_text<A: Allocator>(out: &mut Vec<u8, A>, text: &[u8]) -> Result<(), NoMemory>
     ensures { OnOk result (out.new.items ≡ out.old.items ++ text.now) }
 {
@@ -30,6 +31,7 @@ pub fn push_text<A: Allocator>(out: &mut Vec<u8, A>, text: &[u8]) -> Result<(), 
     Ok(())
 }
 
+/// A number's decimal digits, without zeros in front.
 pub fn push_decimal<A: Allocator>(out: &mut Vec<u8, A>, number: u64) -> Result<(), NoMemory>
     ensures { OnOk result (out.new.items ≡ out.old.items ++ decimal number) }
 {

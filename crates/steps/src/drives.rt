@@ -22,6 +22,7 @@ use std::alloc::Allocator;
 /// What a schedule made of a core.
 #[derive(Drop)]
 pub struct Run<A: Allocator> {
+    /// The core after the last event.
     pub core: Core<A>,
     /// One reply for each event, in order.
     pub answers: Vec<Reply<A>, A>,

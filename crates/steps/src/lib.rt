@@ -2,8 +2,9 @@
 //! of those that were answered.
 //!
 //! The definitions are in `specs/`: what contracts see of a core (`CoreViews`), when its calls are
-//! refused (`Refusals`), the machine of which each of its states is one (`World`), and what is
-//! promised of every schedule of that machine (`Promises`).
+//! refused (`Refusals`), what events do to it and how they are answered (`Schedules`, `Drives`), the
+//! machine of which each of its states is one (`World`), and what is promised of every schedule of that
+//! machine (`Promises`).
 #![tactic(auto)]
 
 mod begin;
