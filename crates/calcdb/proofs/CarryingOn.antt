@@ -5,9 +5,19 @@ use Rattle.std.proofs.KnownBytes.{Appends-trans}
 use Rattle.std.proofs.lemmas.List.{append-nil}
 use Rattle.procedure.specs.Bytes.{Bytes}
 use Rattle.procedure.specs.Procedures.{Procedure}
+use Rattle.phase.specs.declared.phases.Phase.{Phase}
+use Rattle.phase.specs.declared.phases.Phase.TheVariants.{Rest, Prepare, Resolve, Capture, Complete}
+use Rattle.image.specs.declared.images.Kind.{Kind}
+use Rattle.steps.specs.Checkpointing.{AdvancesTo, CapturesAs}
 use Rattle.steps.specs.CoreViews.{CoreView, Finishes, OfOpen, Steps, Underway, open_at}
 use Rattle.steps.specs.Refusals.{unfinished, unstepped}
-use Rattle.steps.specs.Schedules.{BeginsAs, FinishesAs, GivesUpAs, Handles, HandlesAll, StepsAs}
+use Rattle.steps.specs.Schedules.{AbandonsAs, AdvancesAs, BeginsAs, FinishesAs, GivesUpAs, Handles, HandlesAll, StartsAs, StepsAs, VisitsAs}
+use Rattle.steps.specs.declared.captures.Captured.{Captured}
+use Rattle.steps.specs.declared.captures.Captured.TheVariants.{Slot, Done}
+use Rattle.steps.specs.declared.errors.AbandonError.{AbandonError}
+use Rattle.steps.specs.declared.errors.AdvanceError.{AdvanceError}
+use Rattle.steps.specs.declared.errors.CaptureError.{CaptureError}
+use Rattle.steps.specs.declared.errors.StartError.{StartError}
 use Rattle.steps.specs.declared.errors.BeginError.{BeginError}
 use Rattle.steps.specs.declared.errors.FinishError.{FinishError}
 use Rattle.steps.specs.declared.errors.NotActive.{NotActive}
@@ -45,6 +55,33 @@ give_up_kept : (old new : CoreView) (s : ℕ) (r : Result (Unit {0}) NotActive) 
 give_up_kept old new s (Ok x) h = h.given_up.same.catalog
 give_up_kept old new s (Err e) h = ap (λ (v : CoreView). v.catalog) h.refused
 
+start_kept : (old new : CoreView) (k : Kind) (r : Result ℕ StartError) → StartsAs old new k r → new.catalog ≡ old.catalog
+start_kept old new k (Ok x) h = ap (λ (v : CoreView). v.catalog) h.started
+start_kept old new k (Err e) h = ap (λ (v : CoreView). v.catalog) h.refused
+
+advanced_kept : (p : Phase) (old new : CoreView) → AdvancesTo p old new → new.catalog ≡ old.catalog
+advanced_kept Prepare old new h = absurd h
+advanced_kept Resolve old new h = ap (λ (v : CoreView). v.catalog) h
+advanced_kept Capture old new h = ap (λ (v : CoreView). v.catalog) h.2
+advanced_kept Complete old new h = ap (λ (v : CoreView). v.catalog) h.2
+advanced_kept Rest old new h = ap (λ (v : CoreView). v.catalog) h
+
+advance_kept : (old new : CoreView) (r : Result Phase AdvanceError) → AdvancesAs old new r → new.catalog ≡ old.catalog
+advance_kept old new (Ok p) h = advanced_kept p old new h.advanced
+advance_kept old new (Err e) h = ap (λ (v : CoreView). v.catalog) h.refused
+
+captured_kept : (x : Captured) (old new : CoreView) → CapturesAs x old new → new.catalog ≡ old.catalog
+captured_kept Slot old new h = ap (λ (v : CoreView). v.catalog) h.rest
+captured_kept Done old new h = ap (λ (v : CoreView). v.catalog) h.1
+
+capture_kept : (old new : CoreView) (r : Result Captured CaptureError) → VisitsAs old new r → new.catalog ≡ old.catalog
+capture_kept old new (Ok x) h = captured_kept x old new h.captured
+capture_kept old new (Err e) h = ap (λ (v : CoreView). v.catalog) h.refused
+
+abandon_kept : (old new : CoreView) (r : Result ℕ AbandonError) → AbandonsAs old new r → new.catalog ≡ old.catalog
+abandon_kept old new (Ok x) h = ap (λ (v : CoreView). v.catalog) h.abandoned
+abandon_kept old new (Err e) h = ap (λ (v : CoreView). v.catalog) h.refused
+
 module _ {A : Type 0} where
   finish_kept : (old new : CoreView) (s : ℕ) (r : Result (Answer A) FinishError) → FinishesAs old new s r → new.catalog ≡ old.catalog
   finish_kept old new s (Ok x) h = finish_open old new s (open_at old s) refl h.finished h.refusal
@@ -55,6 +92,11 @@ module _ {A : Type 0} where
   event_kept (event.Step s) old new x (r, is, h) = step_kept old new s r h
   event_kept (event.Finish s) old new x (r, is, h) = finish_kept old new s r h
   event_kept (event.GiveUp s) old new x (r, is, h) = give_up_kept old new s r h
+  event_kept (event.Start k) old new x (r, is, h) = start_kept old new k r h
+  event_kept event.Advance old new x (r, is, h) = advance_kept old new r h
+  event_kept event.Capture old new x (r, is, h) = capture_kept old new r h
+  event_kept event.TakeImage old new x (i, is, h) = ap (λ (v : CoreView). v.catalog) h.taken
+  event_kept event.Abandon old new x (r, is, h) = abandon_kept old new r h
 
   events_kept : (es : List (Event A)) (old new : CoreView) (rs : List (Reply A)) → HandlesAll es old new rs → new.catalog ≡ old.catalog
   events_kept [] old new [] h = ap (λ (v : CoreView). v.catalog) (sym h)

@@ -2,6 +2,9 @@
 use Rattle.std.specs.Prelude.{ℕ, ◌==◌, Bool, ◌&&◌, if◌then◌else◌, nat_le, codes, decimal, List, [], ◌∷◌, ◌++◌, length, Some, None}
 use Rattle.byteorder.specs.Endian.{big_number}
 use Rattle.hex.specs.Hex.{encode_lower}
+use Rattle.image.specs.Images.{Entry, Image}
+use Rattle.image.specs.declared.images.Kind.{Kind}
+use Rattle.image.specs.declared.images.Kind.TheVariants.{Full, Partial}
 use Rattle.procedure.specs.Bytes.{Bytes, Cell}
 use Rattle.procedure.specs.declared.outcomes.TheConstants.{COMMITTED}
 use Rattle.calcdb.specs.Lines.{all_pass}
@@ -37,3 +40,32 @@ answer_text place outcome replies = codes "place " ++ decimal place ++ outcome_t
 -- a call that was refused, with the name of the refusal
 abbrev pub refused_text : Bytes → Bytes
 refused_text name = codes "refused " ++ name ++ codes "\n"
+
+-- CHECKPOINTS
+
+-- an entry of an image: its key, and its value or `gone`
+abbrev pub entry_text : Entry → Bytes
+entry_text (k, Some v) = value_text k ++ codes " " ++ value_text v ++ codes "\n"
+entry_text (k, None) = value_text k ++ codes " gone\n"
+
+unfoldable pub entries_text : List Entry → Bytes
+entries_text [] = []
+entries_text (e ∷ es) = entry_text e ++ entries_text es
+
+abbrev pub kind_text : Kind → Bytes
+kind_text Full = codes "image full "
+kind_text Partial = codes "image partial "
+
+abbrev pub place_text : (place count : ℕ) → Bytes
+place_text place count = codes " place " ++ decimal place ++ codes " count " ++ decimal count ++ codes "\n"
+
+abbrev pub header_text : Kind → (number base place count : ℕ) → Bytes
+header_text kind number base place count = kind_text kind ++ decimal number ++ codes " base " ++ decimal base ++ place_text place count
+
+-- an image: a line for its header, and one for each entry
+abbrev pub image_text : Image → Bytes
+image_text i = header_text i.kind i.number i.base i.place (length i.entries) ++ entries_text i.entries
+
+-- a word and a number
+abbrev pub numbered_text : Bytes → ℕ → Bytes
+numbered_text word n = word ++ decimal n ++ codes "\n"

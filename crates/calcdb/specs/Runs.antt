@@ -3,7 +3,9 @@ use Rattle.std.specs.Prelude.{◌≡◌, ◌⊎◌, ℕ, zero, suc, codes, List,
 use Rattle.procedure.specs.Bytes.{Bytes}
 use Rattle.procedure.specs.Procedures.{Procedure}
 use Rattle.steps.specs.CoreViews.{CoreView}
-use Rattle.steps.specs.Refusals.{begin_error_text, finish_error_text, step_error_text}
+use Rattle.phase.specs.Phases.{phase_text}
+use Rattle.steps.specs.Refusals.{abandon_error_text, advance_error_text, begin_error_text, capture_error_text, finish_error_text, start_error_text, step_error_text}
+use Rattle.steps.specs.declared.captures.Captured.TheVariants.{Slot, Done}
 use Rattle.steps.specs.Schedules.{HandlesAll}
 use Rattle.steps.specs.declared.schedules.Event.{Event}
 use Rattle.steps.specs.declared.schedules.Event.TheVariants as event
@@ -19,7 +21,7 @@ use Rattle.std.specs.Io.KnownBytes.{Appends}
 use Rattle.calcdb.specs.Streams.{IsBegun}
 use Rattle.calcdb.specs.declared.faults.Fault.{Fault}
 use Rattle.calcdb.specs.declared.faults.Fault.TheVariants as fault
-use Rattle.calcdb.specs.Output.{answer_text, refused_text}
+use Rattle.calcdb.specs.Output.{answer_text, image_text, numbered_text, refused_text}
 use Rattle.calcdb.specs.declared.commands.Command.{Command}
 use Rattle.calcdb.specs.declared.commands.Command.TheVariants as command
 use Rattle.calcdb.specs.declared.commands.NewCall.{NewCall}
@@ -44,6 +46,17 @@ module _ {A : Type 0} where
   reply_text (reply.Finish (Err e)) = refused_text (finish_error_text e)
   reply_text (reply.GiveUp (Ok x)) = codes "ok\n"
   reply_text (reply.GiveUp (Err e)) = refused_text (codes "not active")
+  reply_text (reply.Start (Ok n)) = numbered_text (codes "checkpoint ") n
+  reply_text (reply.Start (Err e)) = refused_text (start_error_text e)
+  reply_text (reply.Advance (Ok p)) = codes "phase " ++ phase_text p ++ codes "\n"
+  reply_text (reply.Advance (Err e)) = refused_text (advance_error_text e)
+  reply_text (reply.Capture (Ok Slot)) = codes "slot\n"
+  reply_text (reply.Capture (Ok Done)) = codes "done\n"
+  reply_text (reply.Capture (Err e)) = refused_text (capture_error_text e)
+  reply_text (reply.TakeImage None) = codes "none\n"
+  reply_text (reply.TakeImage (Some i)) = image_text i
+  reply_text (reply.Abandon (Ok n)) = numbered_text (codes "abandoned ") n
+  reply_text (reply.Abandon (Err e)) = refused_text (abandon_error_text e)
 
   -- the event by which a call begins
   abbrev pub Begins : NewCall (List Bytes) → Event A → Type 0
@@ -51,6 +64,11 @@ module _ {A : Type 0} where
   Begins c (event.Step s) = ⊥
   Begins c (event.Finish s) = ⊥
   Begins c (event.GiveUp s) = ⊥
+  Begins c (event.Start k) = ⊥
+  Begins c event.Advance = ⊥
+  Begins c event.Capture = ⊥
+  Begins c event.TakeImage = ⊥
+  Begins c event.Abandon = ⊥
 
   -- the end of a call: one event, and where its reply is a refusal one by which the call is given up
   abbrev pub Ends : ℕ → List (Event A) → List (Reply A) → Bytes → Type 0

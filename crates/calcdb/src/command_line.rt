@@ -11,7 +11,7 @@ use std::convert::AsStr;
 
 /// What the program is asked to do.
 #[derive(Clone, Copy, Debug)]
-pub enum Task<'a> {
+pub(crate) enum Task<'a> {
     /// Run the script in this file.
     Run(&'a str),
 }
@@ -35,7 +35,7 @@ fn described<'a>(alloc: Global) -> Result<Command<'a>, AllocError>
 
 /// What the words ask for, of which the first is the program's name; or clap's error, which also stands
 /// for a text that was asked for, as help.
-pub fn job<'a, S: AsStr>(alloc: Global, words: &'a [S]) -> Result<Task<'a>, Error>
+pub(crate) fn job<'a, S: AsStr>(alloc: Global, words: &'a [S]) -> Result<Task<'a>, Error>
     ensures { IfOk result (λ t. IsTask (map S.text words.entry.now) t) }
 {
     let mut command = described(alloc)?;

@@ -15,7 +15,7 @@ use std::marker::Model;
 
 /// The arguments of a call, of any length, seen by contracts as the list of them.
 #[derive(Debug, Drop)]
-pub struct Arguments<A: Allocator> {
+pub(crate) struct Arguments<A: Allocator> {
     values: Vec<Vec<u8, A>, A>,
 }
 
@@ -33,7 +33,7 @@ impl<A: Allocator> Model for Arguments<A> {
 
 impl<A: Allocator> Arguments<A> {
     /// The arguments, by move.
-    pub fn into_values(self) -> Vec<Vec<u8, A>, A>
+    pub(crate) fn into_values(self) -> Vec<Vec<u8, A>, A>
         ensures { map (λ v. v.items) result.items ≡ self }
     {
         let Arguments { values } = self;
@@ -43,7 +43,7 @@ impl<A: Allocator> Arguments<A> {
 
 /// The call that a command begins.
 #[derive(Debug, Drop)]
-pub struct NewCall<V> {
+pub(crate) struct NewCall<V> {
     pub session: u16,
     pub number: u64,
     pub procedure: u16,
@@ -53,7 +53,7 @@ pub struct NewCall<V> {
 /// A command. Its arguments are `Arguments<A>` in the program, and lists of byte strings in the
 /// definitions of `specs/`.
 #[derive(Debug, Drop)]
-pub enum Command<V> {
+pub(crate) enum Command<V> {
     /// The call begins.
     Begin(NewCall<V>),
     /// The session's call executes an instruction.
@@ -68,7 +68,7 @@ pub enum Command<V> {
 
 /// The first word of a command.
 #[derive(Clone, Copy, Debug, PartialEq, Eq)]
-pub enum CommandName {
+pub(crate) enum CommandName {
     Begin,
     Step,
     Finish,
@@ -77,7 +77,7 @@ pub enum CommandName {
 }
 
 /// The number of each procedure that is defined, by its name.
-pub type Names<A> = KeyMap<u16, A>;
+pub(crate) type Names<A> = KeyMap<u16, A>;
 
 fn is_letter_or_digit(word: &[u8]) -> bool
     ensures { result ≡ all_pass spec.is_letter_or_digit word.now }
@@ -91,7 +91,7 @@ fn is_letter_or_digit(word: &[u8]) -> bool
 }
 
 /// Whether a word may be a procedure's name.
-pub fn is_name(word: &[u8]) -> bool
+pub(crate) fn is_name(word: &[u8]) -> bool
     ensures { result ≡ spec.is_name word.now }
 {
     match word {
@@ -103,7 +103,7 @@ pub fn is_name(word: &[u8]) -> bool
 }
 
 /// The number of the procedure with this name.
-pub fn number_of_name<A: Allocator>(names: &Names<A>, word: &[u8]) -> Option<u16>
+pub(crate) fn number_of_name<A: Allocator>(names: &Names<A>, word: &[u8]) -> Option<u16>
     ensures { result ≡ spec.procedure_of names.now word.now }
 {
     if !is_name(word) {
@@ -211,7 +211,7 @@ fn command_at(line: &[u8]) -> Result<(CommandName, &[u8]), Unread>
 
 /// The command that a line is.
 #[tactic(auto, unfolding(crate::specs::Commands::command_of))]
-pub fn command_of<A: Allocator + Clone>(
+pub(crate) fn command_of<A: Allocator + Clone>(
     alloc: A,
     names: &Names<A>,
     line: &[u8],

@@ -24,7 +24,7 @@ use steps::Core;
 
 /// What a run leaves: the core, and the images that were taken, in order.
 #[derive(Drop)]
-pub struct Ran<A: Allocator> {
+pub(crate) struct Ran<A: Allocator> {
     pub core: Core<A>,
     pub images: Vec<Image<A>, A>,
 }
@@ -148,7 +148,7 @@ fn run_text<W: Write, A: Allocator + Copy>(
 /// each command's answer before it begins the next. The opening is looked at first, then the whole text;
 /// where one of them is faulty, one line says so and nothing else is written. A read or write that fails,
 /// by an interruption too, and a write of no byte end the run.
-pub fn run_script<R: Read, W: Write, A: Allocator + Copy>(
+pub(crate) fn run_script<R: Read, W: Write, A: Allocator + Copy>(
     alloc: A,
     reader: &mut R,
     writer: &mut W,

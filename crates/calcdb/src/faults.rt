@@ -8,7 +8,7 @@ use std::fmt;
 /// Why a run ends before its last command was answered. At `Line`, `Size` and `Refused` the one line
 /// that says so was written first.
 #[derive(Debug, Drop, thiserror::Error)]
-pub enum Fault {
+pub(crate) enum Fault {
     #[error("a read failed")]
     Read,
     #[error("a write failed")]
@@ -28,7 +28,7 @@ pub enum Fault {
 /// Why an input is refused. The variants with a number name an image of a chain, a record of a log, a
 /// place or a block.
 #[derive(Clone, Copy, Debug, PartialEq, Eq)]
-pub enum Reason {
+pub(crate) enum Reason {
     NotAnImage,
     BadDigest,
     BadBlock(usize),

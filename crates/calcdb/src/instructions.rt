@@ -16,7 +16,7 @@ use std::alloc::Allocator;
 
 /// The first word of an instruction.
 #[derive(Clone, Copy, Debug, PartialEq, Eq)]
-pub enum Verb {
+pub(crate) enum Verb {
     Read,
     Put,
     Insert,
@@ -28,14 +28,14 @@ pub enum Verb {
 
 /// The word of a test.
 #[derive(Clone, Copy, Debug, PartialEq, Eq)]
-pub enum TestName {
+pub(crate) enum TestName {
     Absent,
     Equal,
     Below,
 }
 
 /// Whether a word is this one, byte by byte.
-pub fn is_word(word: &[u8], name: &[u8]) -> bool
+pub(crate) fn is_word(word: &[u8], name: &[u8]) -> bool
     ensures { result ≡ spec.is_word word.now name.now }
 {
     word == name
@@ -279,7 +279,7 @@ fn abort_line<A: Allocator + Clone>(
 
 /// The instruction that a line is, in a procedure of so many arguments.
 #[tactic(auto, unfolding(crate::specs::Instructions::instruction_of))]
-pub fn instruction_of<A: Allocator + Clone>(
+pub(crate) fn instruction_of<A: Allocator + Clone>(
     alloc: A,
     arity: u8,
     line: &[u8],

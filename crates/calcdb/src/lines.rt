@@ -33,7 +33,7 @@ fn word_end(line: &[u8]) -> Option<usize>
 }
 
 /// The first line of a text, and what stands behind its line feed, if it has one.
-pub fn line_at(text: &[u8]) -> (&[u8], Option<&[u8]>)
+pub(crate) fn line_at(text: &[u8]) -> (&[u8], Option<&[u8]>)
     ensures pieces { pieces spec.is_line_feed text.now ≡ result.0.now ∷ left_pieces spec.is_line_feed (option_map (λ r. r.now) result.1) }
     ensures shorter { IfSome result.1 (λ r. length r.now < length text.now) }
 {
@@ -55,7 +55,7 @@ fn piece_at(line: &[u8]) -> (&[u8], Option<&[u8]>)
 }
 
 /// A line without the carriage return at its end.
-pub fn without_return(line: &[u8]) -> &[u8]
+pub(crate) fn without_return(line: &[u8]) -> &[u8]
     ensures { result.now ≡ spec.without_return line.now }
 {
     match line {
@@ -65,7 +65,7 @@ pub fn without_return(line: &[u8]) -> &[u8]
 }
 
 /// Whether all bytes are such that a line may have.
-pub fn is_allowed(line: &[u8]) -> bool
+pub(crate) fn is_allowed(line: &[u8]) -> bool
     ensures { result ≡ spec.all_pass spec.is_allowed line.now }
 {
     for byte in line {
@@ -77,7 +77,7 @@ pub fn is_allowed(line: &[u8]) -> bool
 }
 
 /// The first word of a line, if it has one, and what stands behind it.
-pub fn first_word(line: &[u8]) -> Option<(&[u8], &[u8])>
+pub(crate) fn first_word(line: &[u8]) -> Option<(&[u8], &[u8])>
     ensures words { option_map (λ p. (p.0.now, words p.1.now)) result ≡ spec.first_word (words line.now) }
     ensures shorter { IfSome result (λ p. length p.1.now < length line.now) }
 {
@@ -94,14 +94,14 @@ pub fn first_word(line: &[u8]) -> Option<(&[u8], &[u8])>
 }
 
 /// The first word of a line, and what stands behind it.
-pub fn word_at(line: &[u8]) -> Result<(&[u8], &[u8]), Unread>
+pub(crate) fn word_at(line: &[u8]) -> Result<(&[u8], &[u8]), Unread>
     ensures { Gives (λ p. (p.0.now, words p.1.now)) result (spec.first_word (words line.now)) }
 {
     first_word(line).ok_or(Unread::Faulty)
 }
 
 /// Nothing, where no word is left.
-pub fn end_of(line: &[u8]) -> Result<(), Unread>
+pub(crate) fn end_of(line: &[u8]) -> Result<(), Unread>
     ensures { Gives (λ p. p) result (spec.no_word (words line.now)) }
 {
     match first_word(line) {
@@ -111,7 +111,7 @@ pub fn end_of(line: &[u8]) -> Result<(), Unread>
 }
 
 /// Whether a line says nothing: it has no word, or its first one begins with `;`.
-pub fn is_skipped(line: &[u8]) -> bool
+pub(crate) fn is_skipped(line: &[u8]) -> bool
     ensures { result ≡ spec.is_skipped (words line.now) }
 {
     match first_word(line) {

@@ -5,33 +5,39 @@
 //! (`Runs`), and how a run ends (`Outcomes`).
 #![tactic(auto)]
 
-pub mod command_line;
-pub mod commands;
-pub mod engine;
-pub mod faults;
-pub mod instructions;
-pub mod lines;
-pub mod output;
-pub mod program;
-pub mod run;
-pub mod scripts;
-pub mod streams;
+mod command_line;
+mod commands;
+#[cfg(test)]
+mod device_tests;
+#[cfg(test)]
+mod devices;
+mod engine;
+#[cfg(test)]
+mod example_tests;
+mod faults;
+#[cfg(test)]
+mod growth_tests;
+#[cfg(test)]
+mod growths;
+mod instructions;
+#[cfg(test)]
+mod large_tests;
+mod lines;
+mod output;
+mod program;
+#[cfg(test)]
+mod program_tests;
+mod run;
+mod scripts;
+mod streams;
 #[cfg(test)]
 mod tests;
-pub mod unread;
-pub mod values;
+mod unread;
+mod values;
 
-use std::env;
-use std::io::{self, BufWriter};
 use std::process::ExitCode;
 
-fn main(rt: HostRuntime) -> io::Result<ExitCode> {
-    let mut words = Vec::new(rt.alloc());
-    for word in env::args(&rt)? {
-        words.push(word)?;
-    }
-    let mut out = BufWriter::new(rt.alloc(), rt.stdout())?;
+fn main(rt: HostRuntime) -> ExitCode {
     let mut err = rt.stderr();
-    let status = program::perform(rt.alloc(), &rt, words.as_slice(), &mut out, &mut err);
-    Ok(ExitCode::from(status))
+    ExitCode::from(program::start(&rt, rt.stdout(), &mut err))
 }

@@ -6,6 +6,7 @@ ghost use Rattle.calcdb.specs.Lines.{all_pass};
 ghost use Rattle.calcdb.specs.Output as spec;
 
 use byteorder::{BigEndian, ByteOrder};
+use image::{Entry, Image, Kind};
 use itoa::Buffer;
 use procedure::outcomes::COMMITTED;
 use procedure::{NoMemory, Value};
@@ -24,7 +25,7 @@ fn is_graphic(bytes: &[u8]) -> bool
 }
 
 /// A text, behind what is there.
-pub fn push_text<A: Allocator>(out: &mut Vec<u8, A>, text: &[u8]) -> Result<(), NoMemory>
+pub(crate) fn push_text<A: Allocator>(out: &mut Vec<u8, A>, text: &[u8]) -> Result<(), NoMemory>
     ensures { OnOk result (out.new.items ≡ out.old.items ++ text.now) }
 {
     out.extend_from_slice(text)?;
@@ -32,7 +33,7 @@ pub fn push_text<A: Allocator>(out: &mut Vec<u8, A>, text: &[u8]) -> Result<(), 
 }
 
 /// A number's decimal digits, without zeros in front.
-pub fn push_decimal<A: Allocator>(out: &mut Vec<u8, A>, number: u64) -> Result<(), NoMemory>
+pub(crate) fn push_decimal<A: Allocator>(out: &mut Vec<u8, A>, number: u64) -> Result<(), NoMemory>
     ensures { OnOk result (out.new.items ≡ out.old.items ++ decimal number) }
 {
     let mut buffer = Buffer::new();
@@ -50,7 +51,10 @@ fn push_hex<A: Allocator + Clone>(out: &mut Vec<u8, A>, bytes: &[u8]) -> Result<
 /// A value: `#` and a number, of 8 bytes; else `'` and the bytes, where each has a sign; else `x` and
 /// hexadecimal digits.
 #[tactic(auto, unfolding(crate::specs::Output::value_text))]
-pub fn push_value<A: Allocator + Clone>(out: &mut Vec<u8, A>, value: &[u8]) -> Result<(), NoMemory>
+pub(crate) fn push_value<A: Allocator + Clone>(
+    out: &mut Vec<u8, A>,
+    value: &[u8],
+) -> Result<(), NoMemory>
     ensures { OnOk result (out.new.items ≡ out.old.items ++ spec.value_text value.now) }
 {
     if value.len() == 8 {
@@ -104,7 +108,7 @@ fn push_outcome<A: Allocator>(out: &mut Vec<u8, A>, outcome: u8) -> Result<(), N
 }
 
 /// The line of a call that was finished: its place in the log, its outcome, and its replies.
-pub fn push_answer<A: Allocator + Clone, B: Allocator>(
+pub(crate) fn push_answer<A: Allocator + Clone, B: Allocator>(
     out: &mut Vec<u8, A>,
     place: u64,
     outcome: u8,
@@ -120,10 +124,111 @@ pub fn push_answer<A: Allocator + Clone, B: Allocator>(
 }
 
 /// The line of a refusal.
-pub fn push_refusal<A: Allocator>(out: &mut Vec<u8, A>, name: &[u8]) -> Result<(), NoMemory>
+pub(crate) fn push_refusal<A: Allocator>(out: &mut Vec<u8, A>, name: &[u8]) -> Result<(), NoMemory>
     ensures { OnOk result (out.new.items ≡ out.old.items ++ spec.refused_text name.now) }
 {
     push_text(out, b"refused ")?;
     push_text(out, name)?;
+    push_text(out, b"\n")
+}
+
+/// The line of an entry of an image: the key, and its value or `gone`.
+fn push_entry<A: Allocator + Clone, B: Allocator>(
+    out: &mut Vec<u8, A>,
+    entry: &Entry<B>,
+) -> Result<(), NoMemory>
+    ensures { OnOk result (out.new.items ≡ out.old.items ++ spec.entry_text entry.now) }
+{
+    push_value(out, entry.key.as_bytes())?;
+    match &entry.cell {
+        Some(value) => {
+            push_text(out, b" ")?;
+            push_value(out, value.as_bytes())?;
+            push_text(out, b"\n")
+        }
+        None => push_text(out, b" gone\n"),
+    }
+}
+
+fn push_entries<A: Allocator + Clone, B: Allocator>(
+    out: &mut Vec<u8, A>,
+    entries: &[Entry<B>],
+) -> Result<(), NoMemory>
+    ensures { OnOk result (out.new.items ≡ out.old.items ++ spec.entries_text entries.now) }
+{
+    for entry in entries {
+        push_entry(out, entry)?;
+    }
+    Ok(())
+}
+
+fn push_kind<A: Allocator>(out: &mut Vec<u8, A>, kind: Kind) -> Result<(), NoMemory>
+    ensures { OnOk result (out.new.items ≡ out.old.items ++ spec.kind_text kind) }
+{
+    match kind {
+        Kind::Full => push_text(out, b"image full "),
+        Kind::Partial => push_text(out, b"image partial "),
+    }
+}
+
+/// The end of a header line: the place of an image, and how many entries it has.
+fn push_place<A: Allocator>(out: &mut Vec<u8, A>, place: u64, count: u64) -> Result<(), NoMemory>
+    ensures { OnOk result (out.new.items ≡ out.old.items ++ spec.place_text place count) }
+{
+    push_text(out, b" place ")?;
+    push_decimal(out, place)?;
+    push_text(out, b" count ")?;
+    push_decimal(out, count)?;
+    push_text(out, b"\n")
+}
+
+/// The header line of an image.
+fn push_header<A: Allocator>(
+    out: &mut Vec<u8, A>,
+    kind: Kind,
+    number: u64,
+    base: u64,
+    place: u64,
+    count: u64,
+) -> Result<(), NoMemory>
+    ensures { OnOk result (out.new.items ≡ out.old.items ++ spec.header_text kind number base place count) }
+{
+    push_kind(out, kind)?;
+    push_decimal(out, number)?;
+    push_text(out, b" base ")?;
+    push_decimal(out, base)?;
+    push_place(out, place, count)
+}
+
+/// The header line of an image, and a line for each entry.
+pub(crate) fn push_image<A: Allocator + Clone, B: Allocator>(
+    out: &mut Vec<u8, A>,
+    image: &Image<B>,
+) -> Result<(), NoMemory>
+    ensures { OnOk result (out.new.items ≡ out.old.items ++ spec.image_text image.now) }
+{
+    let entries = image.entries();
+    push_header(
+        out,
+        image.kind(),
+        image.number(),
+        image.base(),
+        image.place(),
+        entries.len() as u64,
+    )?;
+    push_entries(out, entries)?;
+    Ok(())
+}
+
+/// A line of a word and a number.
+pub(crate) fn push_numbered<A: Allocator>(
+    out: &mut Vec<u8, A>,
+    word: &[u8],
+    number: u64,
+) -> Result<(), NoMemory>
+    ensures { OnOk result (out.new.items ≡ out.old.items ++ spec.numbered_text word.now number) }
+{
+    push_text(out, word)?;
+    push_decimal(out, number)?;
     push_text(out, b"\n")
 }

@@ -3,12 +3,14 @@
 use crate::command_line::{Task, job};
 use crate::engine::run_script;
 use crate::faults::Fault;
+use clap::Error;
+use clap::error::ErrorKind;
 use image::{Image, Kind};
-use std::alloc::Global;
+use std::alloc::Allocator;
 use std::convert::AsStr;
-use std::fs;
-use std::io::{Read, Write};
-use std::rt::Files;
+use std::io::{self, BufWriter, Read, Write};
+use std::rt::{Env, Files};
+use std::{env, fs};
 
 /// How the program's work ended.
 #[derive(Clone, Copy, Debug, PartialEq, Eq)]
@@ -45,7 +47,11 @@ impl Ended {
 }
 
 /// Runs the script that a reader gives, from the empty opening.
-fn run_from<I: Read, O: Write>(alloc: Global, reader: &mut I, out: &mut O) -> Ended {
+fn run_from<I: Read, O: Write, A: Allocator + Copy>(
+    alloc: A,
+    reader: &mut I,
+    out: &mut O,
+) -> Ended {
     let Some(opening) = Image::new(Kind::Full, 0, 0, 0, Vec::new(alloc)) else {
         return Ended::NoMemory;
     };
@@ -55,7 +61,12 @@ fn run_from<I: Read, O: Write>(alloc: Global, reader: &mut I, out: &mut O) -> En
     }
 }
 
-fn run_file<R: Files, O: Write>(alloc: Global, rt: &R, name: &str, out: &mut O) -> Ended
+fn run_file<R: Files, O: Write, A: Allocator + Copy>(
+    alloc: A,
+    rt: &R,
+    name: &str,
+    out: &mut O,
+) -> Ended
 where
     R::File: Drop,
 {
@@ -83,11 +94,27 @@ fn flushed<O: Write>(out: &mut O, ended: Ended) -> Ended {
     }
 }
 
+/// Writes what clap says of the words: a text that was asked for, or on standard error a fault of theirs.
+fn answer_words<O: Write, E: Write>(out: &mut O, err: &mut E, error: &Error) -> Ended {
+    match error.kind() {
+        ErrorKind::OutOfMemory => Ended::NoMemory,
+        _ if error.use_stderr() => {
+            let _ = write!(err, "{error}");
+            Ended::Usage
+        }
+        _ => match write!(out, "{error}") {
+            Ok(()) => flushed(out, Ended::Shown),
+            Err(_) => Ended::CannotWrite,
+        },
+    }
+}
+
 /// Does what the words ask for, of which the first is the program's name, and answers the status of
 /// the process: 0 where it is done, also with refusals inside a script; 1 where an input is refused, a
-/// file can't be read or written, or memory is wanting; 2 where the command line is faulty.
-pub fn perform<R: Files, S: AsStr, O: Write, E: Write>(
-    alloc: Global,
+/// file can't be read or written, or memory is wanting; 2 where the command line is faulty. The command
+/// line takes its memory from the runtime, and the run from `alloc`.
+pub(crate) fn perform<R: Files + AllocGlobal, S: AsStr, O: Write, E: Write, A: Allocator + Copy>(
+    alloc: A,
     rt: &R,
     words: &[S],
     out: &mut O,
@@ -96,24 +123,53 @@ pub fn perform<R: Files, S: AsStr, O: Write, E: Write>(
 where
     R::File: Drop,
 {
-    match job(alloc, words) {
+    let (ended, name) = match job(rt.alloc(), words) {
         Ok(Task::Run(name)) => {
             let ended = run_file(alloc, rt, name, out);
-            let ended = flushed(out, ended);
-            explain(err, ended, name);
-            ended.status()
+            (flushed(out, ended), name)
         }
-        Err(error) if error.use_stderr() => {
-            let _ = write!(err, "{error}");
+        Err(error) => (answer_words(out, err, &error), ""),
+    };
+    explain(err, ended, name);
+    ended.status()
+}
+
+/// Performs what the process is asked for, with a buffer for its standard output.
+fn perform_buffered<R: Env + Files + AllocGlobal, O: Write + Drop, E: Write>(
+    rt: &R,
+    out: O,
+    err: &mut E,
+) -> io::Result<u8>
+where
+    R::File: Drop,
+{
+    let mut words = Vec::new(rt.alloc());
+    for word in env::args(rt)? {
+        words.push(word)?;
+    }
+    let mut out = BufWriter::new(rt.alloc(), out)?;
+    Ok(perform(rt.alloc(), rt, words.as_slice(), &mut out, err))
+}
+
+/// What the process does, and its status. Where its words or its buffer aren't to be had, that is for
+/// want of memory, or a word isn't UTF-8.
+pub(crate) fn start<R: Env + Files + AllocGlobal, O: Write + Drop, E: Write>(
+    rt: &R,
+    out: O,
+    err: &mut E,
+) -> u8
+where
+    R::File: Drop,
+{
+    match perform_buffered(rt, out, err) {
+        Ok(status) => status,
+        Err(error) if error.kind() == io::ErrorKind::OutOfMemory => {
+            explain(err, Ended::NoMemory, "");
+            Ended::NoMemory.status()
+        }
+        Err(_) => {
+            let _ = writeln!(err, "calcdb: a word isn't UTF-8");
             Ended::Usage.status()
-        }
-        Err(error) => {
-            let ended = match write!(out, "{error}") {
-                Ok(()) => flushed(out, Ended::Shown),
-                Err(_) => Ended::CannotWrite,
-            };
-            explain(err, ended, "");
-            ended.status()
         }
     }
 }

@@ -1,20 +1,25 @@
 //! The commands of a script, carried out on a core.
 
-ghost use Rattle.std.specs.Prelude.{◌≡◌, ◌++◌, OnErr, OnOk, slice_get};
+ghost use Rattle.std.specs.Prelude.{◌≡◌, ◌++◌, OnErr, OnOk, codes, slice_get};
 ghost use Rattle.std.specs.Io.KnownBytes.{Appends};
 ghost use Rattle.procedure.specs.Bytes.{Bytes};
-ghost use Rattle.steps.specs.Refusals.{begin_error_text, finish_error_text, step_error_text};
+ghost use Rattle.phase.specs.Phases.{phase_text};
+ghost use Rattle.steps.specs.Refusals.{abandon_error_text, advance_error_text, begin_error_text, capture_error_text, finish_error_text, start_error_text, step_error_text};
 ghost use Rattle.calcdb.specs.Runs.{Calls, Carried, Carries, CarriesAll, Ends, GoesOn, HasRun, Sent, count_of, reply_text};
 
 use crate::commands::{Arguments, Command, NewCall};
 use crate::faults::Fault;
-use crate::output::{push_answer, push_refusal, push_text};
+use crate::output::{push_answer, push_image, push_numbered, push_refusal, push_text};
 use crate::streams::{WriteError, write_out};
+use phase::Phase;
 use procedure::NoMemory;
 use std::alloc::Allocator;
 use std::io::Write;
 use steps::schedules::Reply;
-use steps::{BeginError, Core, FinishError, NotActive, StepError, Stepped};
+use steps::{
+    AbandonError, AdvanceError, BeginError, CaptureError, Captured, Core, FinishError, NotActive,
+    StartError, StepError, Stepped,
+};
 
 /// How many instructions a procedure of the core has; 0 where there is none.
 fn count_of<A: Allocator>(core: &Core<A>, procedure: u16) -> usize
@@ -132,7 +137,70 @@ fn finish_error_name(refused: FinishError) -> &'static [u8]
     }
 }
 
-/// The line that is printed of a reply.
+fn start_error_name(refused: StartError) -> &'static [u8]
+    ensures { result.now ≡ start_error_text refused }
+{
+    match refused {
+        StartError::NotAtRest => b"not at rest",
+        StartError::NotTaken => b"not taken",
+        StartError::LogFull => b"log full",
+        StartError::NoMemory => b"no memory",
+    }
+}
+
+fn advance_error_name(refused: AdvanceError) -> &'static [u8]
+    ensures { result.now ≡ advance_error_text refused }
+{
+    match refused {
+        AdvanceError::AtRest => b"at rest",
+        AdvanceError::StillActive => b"still active",
+        AdvanceError::NotScanned => b"not scanned",
+        AdvanceError::LogFull => b"log full",
+        AdvanceError::NoMemory => b"no memory",
+    }
+}
+
+fn capture_error_name(refused: CaptureError) -> &'static [u8]
+    ensures { result.now ≡ capture_error_text refused }
+{
+    match refused {
+        CaptureError::NotCapturing => b"not capturing",
+        CaptureError::NoMemory => b"no memory",
+    }
+}
+
+fn abandon_error_name(refused: AbandonError) -> &'static [u8]
+    ensures { result.now ≡ abandon_error_text refused }
+{
+    match refused {
+        AbandonError::NotAbandonable => b"not abandonable",
+        AbandonError::LogFull => b"log full",
+        AbandonError::NoMemory => b"no memory",
+    }
+}
+
+fn phase_name(phase: Phase) -> &'static [u8]
+    ensures { result.now ≡ phase_text phase }
+{
+    match phase {
+        Phase::Rest => b"rest",
+        Phase::Prepare => b"prepare",
+        Phase::Resolve => b"resolve",
+        Phase::Capture => b"capture",
+        Phase::Complete => b"complete",
+    }
+}
+
+/// The line of a phase that was entered.
+fn push_phase<A: Allocator>(out: &mut Vec<u8, A>, phase: Phase) -> Result<(), NoMemory>
+    ensures { OnOk result (out.new.items ≡ out.old.items ++ (codes "phase " ++ phase_text phase ++ codes "\n")) }
+{
+    push_text(out, b"phase ")?;
+    push_text(out, phase_name(phase))?;
+    push_text(out, b"\n")
+}
+
+/// The line that is printed of a reply, and of an image a line for each entry.
 fn push_reply<A: Allocator + Clone>(out: &mut Vec<u8, A>, reply: &Reply<A>) -> Result<(), NoMemory>
     ensures { OnOk result (out.new.items ≡ out.old.items ++ reply_text reply.now) }
 {
@@ -150,6 +218,17 @@ fn push_reply<A: Allocator + Clone>(out: &mut Vec<u8, A>, reply: &Reply<A>) -> R
         Reply::Step(Err(refused)) => push_refusal(out, step_error_name(*refused)),
         Reply::Finish(Err(refused)) => push_refusal(out, finish_error_name(*refused)),
         Reply::GiveUp(Err(NotActive)) => push_refusal(out, b"not active"),
+        Reply::Start(Ok(number)) => push_numbered(out, b"checkpoint ", *number),
+        Reply::Start(Err(refused)) => push_refusal(out, start_error_name(*refused)),
+        Reply::Advance(Ok(phase)) => push_phase(out, *phase),
+        Reply::Advance(Err(refused)) => push_refusal(out, advance_error_name(*refused)),
+        Reply::Capture(Ok(Captured::Slot)) => push_text(out, b"slot\n"),
+        Reply::Capture(Ok(Captured::Done)) => push_text(out, b"done\n"),
+        Reply::Capture(Err(refused)) => push_refusal(out, capture_error_name(*refused)),
+        Reply::TakeImage(None) => push_text(out, b"none\n"),
+        Reply::TakeImage(Some(image)) => push_image(out, image),
+        Reply::Abandon(Ok(number)) => push_numbered(out, b"abandoned ", *number),
+        Reply::Abandon(Err(refused)) => push_refusal(out, abandon_error_name(*refused)),
     }
 }
 
@@ -182,7 +261,7 @@ fn answer<W: Write, A: Allocator + Clone>(
 }
 
 /// Carries out the commands, each after the line of the one before was written.
-pub fn run_commands<W: Write, A: Allocator + Clone>(
+pub(crate) fn run_commands<W: Write, A: Allocator + Clone>(
     alloc: A,
     core: &mut Core<A>,
     writer: &mut W,

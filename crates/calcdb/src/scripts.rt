@@ -21,11 +21,11 @@ use std::alloc::{AllocError, Allocator};
 use std::marker::Model;
 
 /// Bytes of a script.
-pub const SCRIPT_BYTES: usize = 4_194_304;
+pub(crate) const SCRIPT_BYTES: usize = 4_194_304;
 
 /// Why a text is no script.
 #[derive(Clone, Copy, Debug, PartialEq, Eq)]
-pub enum ScriptFault {
+pub(crate) enum ScriptFault {
     /// The first faulty line, counted from 1.
     Line(u64),
     /// Over 4,194,304 bytes.
@@ -374,7 +374,7 @@ fn read_lines<A: Allocator + Clone>(alloc: A, text: &[u8]) -> Result<Said<A>, Sc
 
 /// A script: its procedures, and its commands in order.
 #[derive(Drop)]
-pub struct Script<A: Allocator> {
+pub(crate) struct Script<A: Allocator> {
     pub catalog: Catalog<A>,
     pub commands: Sequence<Command<Arguments<A>>, A>,
 }
@@ -391,7 +391,10 @@ impl<A: Allocator> Model for Script<A> {
 /// line feed, and words stand between spaces or tabs; docs/FORMATS.md has the language. It takes time
 /// and memory in proportion to the text.
 #[tactic(auto, unfolding(crate::specs::Scripts::script_of))]
-pub fn read_script<A: Allocator + Clone>(alloc: A, text: &[u8]) -> Result<Script<A>, ScriptFault>
+pub(crate) fn read_script<A: Allocator + Clone>(
+    alloc: A,
+    text: &[u8],
+) -> Result<Script<A>, ScriptFault>
     ensures { Tells (λ s. s) result (spec.script_of text.now) }
 {
     if text.len() > SCRIPT_BYTES {

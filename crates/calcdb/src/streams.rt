@@ -12,11 +12,11 @@ use std::io::{Read, Write};
 
 /// A write failed, or took no byte.
 #[derive(Clone, Copy, Debug, PartialEq, Eq)]
-pub struct WriteError;
+pub(crate) struct WriteError;
 
 /// Why a text isn't read.
 #[derive(Clone, Copy, Debug, PartialEq, Eq)]
-pub enum ReadError {
+pub(crate) enum ReadError {
     Read,
     NoMemory,
 }
@@ -28,7 +28,7 @@ impl From<AllocError> for ReadError {
 }
 
 /// Writes all of the bytes; the first write that fails ends it, an interrupted one too.
-pub fn write_out<W: Write>(writer: &mut W, bytes: &[u8]) -> Result<(), WriteError>
+pub(crate) fn write_out<W: Write>(writer: &mut W, bytes: &[u8]) -> Result<(), WriteError>
     ensures ok { OnOk result (Appends (W.contents writer.old) (W.contents writer.new) bytes.now) }
     ensures err { OnErr result (IsBegun (W.contents writer.old) (W.contents writer.new) bytes.now) }
 {
@@ -52,7 +52,10 @@ const CHUNK: usize = 4096;
 
 /// What the reader gives, to its end or until it is more than a script has; the first read that fails
 /// ends it, an interrupted one too.
-pub fn read_text<R: Read, A: Allocator>(alloc: A, reader: &mut R) -> Result<Vec<u8, A>, ReadError>
+pub(crate) fn read_text<R: Read, A: Allocator>(
+    alloc: A,
+    reader: &mut R,
+) -> Result<Vec<u8, A>, ReadError>
     ensures read { IfOk result (λ text. Consumes (R.remaining reader.old) (R.remaining reader.new) text.items) }
     ensures end { IfOk result (λ text. length text.items ≤ SCRIPT_BYTES → IsAtEnd (R.remaining reader.new)) }
 {

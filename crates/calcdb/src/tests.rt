@@ -1,114 +1,70 @@
-//! Tests of the program: scripts, faults, printed values, devices that fail, and the command line.
+//! Tests of scripts, the faults of their lines, and printed values.
 
 use crate::commands::is_name;
+use crate::devices::{PLENTY, Sink, Source};
 use crate::engine::run_script;
-use crate::faults::{Fault, Reason};
+use crate::faults::Fault;
 use crate::output::push_value;
-use crate::program::perform;
 use crate::scripts::{ScriptFault, read_script};
 use crate::values::value_of;
 use image::{Image, Kind};
-use std::alloc::Global;
-use std::fs;
-use std::io::{Error, ErrorKind, Read, Result as IoResult, Write};
+use std::alloc::{Allocator, Global};
+use std::fmt::Write;
 use std::process::Abort;
-use std::rt::Files;
 use std::test::Fail;
 
-/// Keeps what is written, at most so many bytes a call, and fails at the call of this number.
-#[derive(Drop)]
-struct Sink {
-    kept: Vec<u8, Global>,
-    most: usize,
-    calls: usize,
-    failures: usize,
-}
-
-impl Sink {
-    fn new(alloc: Global, most: usize, calls: usize) -> Sink {
-        Sink {
-            kept: Vec::new(alloc),
-            most,
-            calls,
-            failures: 0,
-        }
-    }
-}
-
-impl Write for Sink {
-    fn write(&mut self, buf: &[u8]) -> IoResult<usize> {
-        if self.calls == 0 {
-            self.failures = self.failures.saturating_add(1);
-            return Err(Error::from(ErrorKind::Interrupted));
-        }
-        self.calls -= 1;
-        let taken = buf.len().min(self.most);
-        self.kept.extend_from_slice(&buf[..taken])?;
-        Ok(taken)
-    }
-
-    fn flush(&mut self) -> IoResult<()> {
-        Ok(())
-    }
-}
-
-/// Gives its bytes, at most so many a call, and fails at the call of this number.
-#[derive(Drop)]
-struct Source<'a> {
-    left: &'a [u8],
-    most: usize,
-    calls: usize,
-}
-
-impl Read for Source<'_> {
-    fn read(&mut self, buf: &mut [u8]) -> IoResult<usize> {
-        if self.calls == 0 {
-            return Err(Error::from(ErrorKind::Interrupted));
-        }
-        self.calls -= 1;
-        let given = self.left.len().min(self.most).min(buf.len());
-        let (now, later) = self.left.split_at(given);
-        buf[..given].copy_from_slice(now);
-        self.left = later;
-        Ok(given)
-    }
-}
-
-const PLENTY: usize = 1_000_000;
-
 /// The procedures of the worked examples.
-const PROCEDURES: &str =
+pub(crate) const PROCEDURES: &str =
     "proc get 1\nread r0 $0\nend\nproc new 2\ninsert $0 $1\nend\nproc dep 2\nread r0 $0\nabort 16 absent r0\nadd r1 r0 $1\nput $0 r1\nend\nproc move 3\nread r0 $0\nread r1 $1\nsub r0 r0 $2\nadd r1 r1 $2\nput $0 r0\nput $1 r1\nend\nproc set 2\nput $0 $1\nend\nproc del 1\ndelete $0\nend\nproc swap 2\nread r0 $0\nput $0 $1\nend\n";
 
-fn empty_opening(alloc: Global) -> Result<Image<Global>, Fail> {
-    Ok(Image::new(Kind::Full, 0, 0, 0, Vec::new(alloc)).ok_or("no opening")?)
+/// How a run ends that starts from the empty opening. A fault of a device comes where that device
+/// failed, and nowhere else.
+pub(crate) fn ending<A: Allocator + Copy>(
+    rt: &impl Abort,
+    alloc: A,
+    source: &mut Source<'_>,
+    sink: &mut Sink,
+) -> Result<Option<Fault>, Fail> {
+    let opening = Image::new(Kind::Full, 0, 0, 0, Vec::new(alloc)).ok_or("no opening")?;
+    let fault = run_script(alloc, source, sink, opening).err();
+    assert_eq!(rt; matches!(fault, Some(Fault::Read)), source.failures > 0);
+    assert_eq!(rt; matches!(fault, Some(Fault::Write)), sink.failures > 0);
+    Ok(fault)
 }
 
 /// What a script writes, and how it ends.
-fn outcome(
+pub(crate) fn outcome(
+    rt: &impl Abort,
     alloc: Global,
     script: &[u8],
-    most: usize,
-    calls: usize,
 ) -> Result<(Vec<u8, Global>, Option<Fault>), Fail> {
-    let mut source = Source {
-        left: script,
-        most: PLENTY,
-        calls: PLENTY,
-    };
-    let mut sink = Sink::new(alloc, most, calls);
-    let opening = empty_opening(alloc)?;
-    let fault = run_script(alloc, &mut source, &mut sink, opening).err();
+    let mut sink = Sink::new(alloc, PLENTY, PLENTY);
+    let mut source = Source::new(script, PLENTY, PLENTY);
+    let fault = ending(rt, alloc, &mut source, &mut sink)?;
     Ok((sink.kept, fault))
 }
 
-fn check(rt: &impl Abort, alloc: Global, commands: &str, answers: &str) -> Result<(), Fail> {
-    let mut script = Vec::from_slice(alloc, PROCEDURES.as_bytes())?;
-    script.extend_from_slice(commands.as_bytes())?;
-    let (written, fault) = outcome(alloc, script.as_slice(), PLENTY, PLENTY)?;
+/// The worked procedures, and then these commands.
+pub(crate) fn script_of(alloc: Global, commands: &str) -> Result<String<Global>, Fail> {
+    Ok(format!(in alloc; "{PROCEDURES}{commands}")?)
+}
+
+/// Runs a script, and compares what it writes.
+pub(crate) fn check_script(
+    rt: &impl Abort,
+    alloc: Global,
+    script: &str,
+    answers: &str,
+) -> Result<(), Fail> {
+    let (written, fault) = outcome(rt, alloc, script.as_bytes())?;
     assert!(rt; fault.is_none());
     assert_eq!(rt; written.as_slice(), answers.as_bytes());
     Ok(())
+}
+
+fn check(rt: &impl Abort, alloc: Global, commands: &str, answers: &str) -> Result<(), Fail> {
+    let script = script_of(alloc, commands)?;
+    check_script(rt, alloc, script.as_str(), answers)
 }
 
 #[test]
@@ -210,7 +166,7 @@ fn fault_of(alloc: Global, script: &str) -> Result<Option<ScriptFault>, Fail> {
 #[test]
 fn faults_of_lines(rt: HostRuntime) -> Result<(), Fail> {
     let alloc = rt.alloc();
-    let table: [(&str, u64); 22] = [
+    let table: [(&str, u64); 31] = [
         ("\nstop 0", 2),
         (";\n;\n; \u{7f}\n", 3),
         ("step 65536", 1),
@@ -239,6 +195,15 @@ fn faults_of_lines(rt: HostRuntime) -> Result<(), Fail> {
         ("proc g 1\nread r0 $0\n\nwrong\nend", 4),
         ("step 0\nproc g 1\nend", 2),
         ("proc g 1\nproc h 1\nend", 2),
+        ("proc g 1 1\nend", 1),
+        ("proc abcdefghijklmnopqrstuvwxyz0123456 1\nend", 1),
+        ("proc g 1\nread r0\nend", 2),
+        ("proc g 1\nread r0 $0 $0\nend", 2),
+        ("proc g 1\nput $0 text\nend", 2),
+        ("proc g 1\nput $0 #000000000000000000000\nend", 2),
+        ("proc g 1\nabort 16 same $0\nend", 2),
+        ("proc g 1\nread r0 $0\nend 1\nend", 3),
+        ("step 0\rstep 0", 1),
     ];
     for (script, line) in table {
         assert_eq!(rt;
@@ -251,6 +216,42 @@ fn faults_of_lines(rt: HostRuntime) -> Result<(), Fail> {
         fault_of(alloc, "; \r\n\t \r\n proc g 0 \r\n\n end\nstep 00\r")?,
         None
     );
+    Ok(())
+}
+
+/// A procedure of so many instructions with a literal of so many bytes, and so many procedures in all.
+fn sized(
+    alloc: Global,
+    instructions: usize,
+    literal: usize,
+    procedures: usize,
+) -> Result<String<Global>, Fail> {
+    let mut text = String::new(alloc);
+    writeln!(text, "proc g 1\nread r0 '{}", "a".repeat(alloc, literal)?)?;
+    for _ in 1..instructions {
+        text.push_str("read r0 $0\n")?;
+    }
+    text.push_str("end\n")?;
+    for number in 1..procedures {
+        writeln!(text, "proc p{number} 0\nend")?;
+    }
+    Ok(text)
+}
+
+#[test]
+fn limits(rt: HostRuntime) -> Result<(), Fail> {
+    let alloc = rt.alloc();
+    let table = [
+        (64, 256, 64, None),
+        (65, 256, 64, Some(66)),
+        (64, 257, 64, Some(2)),
+        (64, 256, 65, Some(193)),
+    ];
+    for (instructions, literal, procedures, line) in table {
+        let text = sized(alloc, instructions, literal, procedures)?;
+        let fault = fault_of(alloc, text.as_str())?;
+        assert_eq!(rt; fault, line.map(ScriptFault::Line));
+    }
     Ok(())
 }
 
@@ -272,7 +273,7 @@ fn names(rt: HostRuntime) {
 #[test]
 fn one_line_of_a_fault(rt: HostRuntime) -> Result<(), Fail> {
     let alloc = rt.alloc();
-    let (written, fault) = outcome(alloc, "step 0\nstop 0\nwrong\n".as_bytes(), PLENTY, PLENTY)?;
+    let (written, fault) = outcome(&rt, alloc, "step 0\nstop 0\nwrong\n".as_bytes())?;
     assert_eq!(rt; written.as_slice(), "fault line 2\n".as_bytes());
     assert!(rt; matches!(fault, Some(Fault::Line(2))));
     Ok(())
@@ -306,7 +307,7 @@ fn values_read_and_printed(rt: HostRuntime) -> Result<(), Fail> {
 fn size_and_bytes(rt: HostRuntime) -> Result<(), Fail> {
     let alloc = rt.alloc();
     let long = vec![in alloc; b'\n'; 4_194_305]?;
-    let (written, fault) = outcome(alloc, long.as_slice(), PLENTY, PLENTY)?;
+    let (written, fault) = outcome(&rt, alloc, long.as_slice())?;
     assert_eq!(rt; written.as_slice(), "fault size\n".as_bytes());
     assert!(rt; matches!(fault, Some(Fault::Size)));
     let whole = read_script(alloc, &long[1..]).map_err(|_| "no script")?;
@@ -316,126 +317,4 @@ fn size_and_bytes(rt: HostRuntime) -> Result<(), Fail> {
         Some(ScriptFault::Line(3))
     );
     Ok(())
-}
-
-const SHORT: &str =
-    "proc new 2\ninsert $0 $1\nend\ncall 0 1 new 'a #5\ncall 0 2 new 'a #5\nstep 0\n";
-
-const ANSWERS: &str = "place 0 committed\nplace 1 aborted 1\nrefused not active\n";
-
-/// A writer that takes few bytes a call, and fails at a call: what it has is a beginning.
-#[test]
-fn failing_writer(rt: HostRuntime) -> Result<(), Fail> {
-    let alloc = rt.alloc();
-    let (written, fault) = outcome(alloc, SHORT.as_bytes(), 1, PLENTY)?;
-    assert_eq!(rt; written.as_slice(), ANSWERS.as_bytes());
-    assert!(rt; fault.is_none());
-    for calls in 0..ANSWERS.len() {
-        let (written, fault) = outcome(alloc, SHORT.as_bytes(), 1, calls)?;
-        assert!(rt; ANSWERS.as_bytes().starts_with(written.as_slice()));
-        assert_eq!(rt; written.len(), calls);
-        assert!(rt; matches!(fault, Some(Fault::Write)));
-    }
-    let (written, fault) = outcome(alloc, SHORT.as_bytes(), 0, PLENTY)?;
-    assert!(rt; written.is_empty() && matches!(fault, Some(Fault::Write)));
-    Ok(())
-}
-
-/// A reader that gives few bytes a call, and fails at a call: nothing is written.
-#[test]
-fn failing_reader(rt: HostRuntime) -> Result<(), Fail> {
-    let alloc = rt.alloc();
-    for calls in 0..=SHORT.len() {
-        let mut source = Source {
-            left: SHORT.as_bytes(),
-            most: 1,
-            calls,
-        };
-        let mut sink = Sink::new(alloc, PLENTY, PLENTY);
-        let opening = empty_opening(alloc)?;
-        let fault = run_script(alloc, &mut source, &mut sink, opening).err();
-        assert!(rt; matches!(fault, Some(Fault::Read)));
-        assert!(rt; sink.kept.is_empty());
-    }
-    Ok(())
-}
-
-/// An opening that isn't one is refused before the script is read.
-#[test]
-fn refused_opening(rt: HostRuntime) -> Result<(), Fail> {
-    let alloc = rt.alloc();
-    let mut source = Source {
-        left: "stop".as_bytes(),
-        most: PLENTY,
-        calls: 0,
-    };
-    let mut sink = Sink::new(alloc, PLENTY, PLENTY);
-    let opening = Image::new(Kind::Full, 1, 1, 0, Vec::new(alloc)).ok_or("no image")?;
-    let fault = run_script(alloc, &mut source, &mut sink, opening).err();
-    assert!(rt; matches!(fault, Some(Fault::Refused(Reason::NotAnOpening))));
-    assert_eq!(rt; sink.kept.as_slice(), "refused not an opening\n".as_bytes());
-    Ok(())
-}
-
-/// The status, and what stands on standard output and standard error.
-fn performed<R: Files>(
-    rt: &R,
-    alloc: Global,
-    words: &[&str],
-    room: usize,
-) -> (u8, Vec<u8, Global>, Vec<u8, Global>)
-where
-    R::File: Drop,
-{
-    let mut out = Sink::new(alloc, PLENTY, room);
-    let mut err = Sink::new(alloc, PLENTY, PLENTY);
-    let status = perform(alloc, rt, words, &mut out, &mut err);
-    (status, out.kept, err.kept)
-}
-
-#[test]
-fn statuses(rt: HostRuntime) -> Result<(), Fail> {
-    let alloc = rt.alloc();
-    fs::write(&rt, "right", SHORT)?;
-    fs::write(&rt, "wrong", "step 0\nstop 0\n")?;
-    let table: [(&str, usize, u8, &str, &str); 4] = [
-        ("right", PLENTY, 0, ANSWERS, ""),
-        (
-            "right",
-            1,
-            1,
-            "place 0 committed\n",
-            "calcdb: cannot write output\n",
-        ),
-        ("wrong", PLENTY, 1, "fault line 2\n", ""),
-        ("none", PLENTY, 1, "", "calcdb: cannot read none\n"),
-    ];
-    for (name, room, status, on_out, on_err) in table {
-        let (found, out, err) = performed(&rt, alloc, ["calcdb", "run", name].as_slice(), room);
-        assert_eq!(rt; found, status, "{name}");
-        assert_eq!(rt; out.as_slice(), on_out.as_bytes());
-        assert_eq!(rt; err.as_slice(), on_err.as_bytes());
-    }
-    Ok(())
-}
-
-#[test]
-fn faulty_command_lines(rt: HostRuntime) {
-    let alloc = rt.alloc();
-    for words in [
-        ["calcdb", "stop"].as_slice(),
-        ["calcdb"].as_slice(),
-        ["calcdb", "run"].as_slice(),
-        ["calcdb", "run", "a", "b"].as_slice(),
-    ] {
-        let (status, out, err) = performed(&rt, alloc, words, PLENTY);
-        assert!(rt; status == 2 && out.is_empty() && !err.is_empty());
-    }
-    for words in [
-        ["calcdb", "--help"].as_slice(),
-        ["calcdb", "--version"].as_slice(),
-    ] {
-        let (status, out, err) = performed(&rt, alloc, words, PLENTY);
-        assert!(rt; status == 0 && !out.is_empty() && err.is_empty());
-    }
 }

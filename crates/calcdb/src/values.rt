@@ -44,7 +44,7 @@ fn number_of_digits(most: u64, digits: &[u8]) -> Result<u64, Unread>
 
 /// A decimal of one or more digits, at most so great.
 #[tactic(auto, unfolding(crate::specs::Values::decimal_of))]
-pub fn decimal_of(most: u64, word: &[u8]) -> Result<u64, Unread>
+pub(crate) fn decimal_of(most: u64, word: &[u8]) -> Result<u64, Unread>
     ensures value { Gives (λ n. n) result (spec.decimal_of most word.now) }
     ensures fits { IfOk result (λ n. n ≤ most) }
 {
@@ -81,7 +81,7 @@ fn hex_of<A: Allocator>(alloc: A, digits: &[u8]) -> Result<Vec<u8, A>, Unread>
 
 /// The value that a word is.
 #[tactic(auto, unfolding(crate::specs::Values::value_of))]
-pub fn value_of<A: Allocator>(alloc: A, word: &[u8]) -> Result<Vec<u8, A>, Unread>
+pub(crate) fn value_of<A: Allocator>(alloc: A, word: &[u8]) -> Result<Vec<u8, A>, Unread>
     ensures { Gives (λ v. v.items) result (spec.value_of word.now) }
 {
     match word {

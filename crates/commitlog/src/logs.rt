@@ -78,9 +78,11 @@ impl<A: Allocator> Log<A> {
 
     /// Whether there are 1,000,000 records, so that no other is taken.
     pub fn is_full(&self) -> bool
-        ensures { IsTrue result ↔ (length self.now.records ≡ RECORDS) }
+        ensures value { IsTrue result ↔ (length self.now.records ≡ RECORDS) }
+        ensures most { length self.now.records ≤ RECORDS }
     {
-        self.len() == RECORDS
+        let count = self.records.len();
+        count == RECORDS
     }
 
     /// The record at a place, counted from 0, if there is one.

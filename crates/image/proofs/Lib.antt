@@ -1,6 +1,7 @@
 pub mod Rising
 pub mod Joins
 pub mod Tables
+pub mod Sorting
 pub mod Chains
 pub mod Results
 pub mod Merged

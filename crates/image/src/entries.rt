@@ -3,6 +3,7 @@
 ghost use Rattle.std.specs.Prelude.{◌≡◌, ◌↔◌, IsTrue};
 ghost use Rattle.std.specs.Ordering.{nat_cmp};
 ghost use Rattle.std.specs.Cmp.Lexicographic.{slice_cmp};
+ghost use Rattle.std.specs.List.Sorted.{IsPermutation, IsSortedByKey};
 ghost use Rattle.image.specs.Images.{AllPresent, Rises};
 
 use procedure::{Key, Value};
@@ -41,6 +42,14 @@ pub(crate) fn compared<A: Allocator>(entry: &Entry<A>, key: &Key) -> Ordering
     ensures { result ≡ slice_cmp nat_cmp entry.now.0 key.now }
 {
     entry.key.cmp(key)
+}
+
+/// Puts entries in the byte order of their keys, in place. Those of one key come in any order.
+pub(crate) fn sort_by_keys<A: Allocator>(entries: &mut Vec<Entry<A>, A>)
+    ensures moved { IsPermutation entries.old.items entries.new.items }
+    ensures in_order { IsSortedByKey (λ e. e.0) (slice_cmp nat_cmp) entries.new.items }
+{
+    entries.sort_unstable_by(|one, other| one.key.cmp(&other.key));
 }
 
 /// Whether the keys strictly rise, so that none stands twice.

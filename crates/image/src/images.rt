@@ -4,10 +4,11 @@ ghost use Rattle.std.specs.Prelude.{◌≡◌, ◌<◌, ◌↔◌, Err, IfOk, If
 ghost use Rattle.procedure.specs.Table.{change_at};
 ghost use Rattle.std.specs.FinMap as finite;
 ghost use Rattle.image.specs.Images.{Image, IsLawful, SuitsKind, changes_of, entries_of, full_image};
+ghost use Rattle.image.specs.Headers.{IsOnce, of_captured};
 ghost use Rattle.image.specs.declared.images.Kind.TheVariants.{Full};
 ghost use Rattle.image.specs.declared.images.OpeningError.TheVariants as refused;
 
-use crate::entries::{Entry, all_present, compared, keys_rise};
+use crate::entries::{Entry, all_present, compared, keys_rise, sort_by_keys};
 use crate::limits::ENTRIES;
 use procedure::{Key, NoMemory, Table, Value};
 use std::alloc::{AllocError, Allocator};
@@ -122,6 +123,22 @@ impl<A: Allocator> Image<A> {
             place,
             entries,
         })
+    }
+
+    /// The image of entries that were captured in any order; None where it isn't lawful or a key comes
+    /// twice. It sorts them in place and takes no memory.
+    pub fn captured(
+        kind: Kind,
+        number: u64,
+        base: u64,
+        place: u64,
+        mut entries: Vec<Entry<A>, A>,
+    ) -> Option<Self>
+        ensures value { IfSome result (λ i. i ≡ of_captured kind number base place entries.items) }
+        ensures lawful { IsSome result ↔ (IsOnce entries.items × IsLawful (of_captured kind number base place entries.items)) }
+    {
+        sort_by_keys(&mut entries);
+        Image::new(kind, number, base, place, entries)
     }
 
     pub fn kind(&self) -> Kind

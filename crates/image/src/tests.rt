@@ -37,6 +37,34 @@ const LAWFUL: [(Kind, u64, u64, &[Given], bool); 11] = [
     (Kind::Partial, 1, 2, &[], false),
 ];
 
+/// Kind, number, base, entries as they were captured, and those of their image, if they make one.
+const CAPTURES: [(Kind, u64, u64, &[Given], Option<&[Given]>); 6] = [
+    (Kind::Full, 0, 0, &[], Some(&[])),
+    (
+        Kind::Full,
+        1,
+        1,
+        &[(b'c', Some(3)), (b'a', Some(1)), (b'b', Some(2))],
+        Some(&[(b'a', Some(1)), (b'b', Some(2)), (b'c', Some(3))]),
+    ),
+    (
+        Kind::Partial,
+        5,
+        3,
+        &[(b'b', None), (b'a', Some(1))],
+        Some(&[(b'a', Some(1)), (b'b', None)]),
+    ),
+    (
+        Kind::Full,
+        1,
+        1,
+        &[(b'b', Some(1)), (b'a', Some(2)), (b'b', Some(1))],
+        None,
+    ),
+    (Kind::Full, 1, 1, &[(b'b', Some(1)), (b'a', None)], None),
+    (Kind::Partial, 1, 1, &[(b'a', Some(1))], None),
+];
+
 fn entry(alloc: Global, given: Given) -> Result<Entry<Global>, Fail> {
     let cell = match given.1 {
         Some(number) => Some(Value::of_number(alloc, number)?),
@@ -103,6 +131,21 @@ fn lawful(rt: HostRuntime) -> Result<(), Fail> {
     for (kind, number, base, given, lawful) in LAWFUL {
         let made = Image::new(kind, number, base, 7, entries(alloc, given)?);
         assert_eq!(rt; made.is_some(), lawful, "number {number}, base {base}");
+    }
+    Ok(())
+}
+
+#[test]
+fn captured_in_any_order(rt: HostRuntime) -> Result<(), Fail> {
+    let alloc = rt.alloc();
+    for (kind, number, base, given, wanted) in CAPTURES {
+        let made = Image::captured(kind, number, base, 7, entries(alloc, given)?);
+        let right = match (&made, wanted) {
+            (Some(image), Some(sorted)) => are(image.entries(), sorted),
+            (None, None) => true,
+            _ => false,
+        };
+        assert!(rt; right, "number {number}, base {base}");
     }
     Ok(())
 }

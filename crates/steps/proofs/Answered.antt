@@ -28,7 +28,8 @@ use Rattle.image.specs.Merges.{table_of}
 use Rattle.record_store.specs.declared.limits.TheConstants as stored
 use Rattle.steps.specs.CoreFields.{IsCore, IsOpen, SameCall, call_at, underway, view_of}
 use Rattle.steps.specs.CoreViews.{CoreView, IsSmall, Underway, OfOpen, Finishes, front_of, open_at, replaced, table_now}
-use Rattle.steps.specs.Edits.{all_kept, all_undone, first_noted, noted_of, versions_in}
+use Rattle.steps.specs.Backwards.{before}
+use Rattle.steps.specs.Edits.{KeepsSlots, all_kept, all_undone, first_noted, noted_of, versions_in}
 use Rattle.steps.specs.Good.{undo_of}
 use Rattle.steps.specs.World.{Open, World, Goes, Commits, Aborts, Version, abort, answer, commit, kept_key, more, now, undone_key}
 use Rattle.steps.specs.declared.calls.OpenCall.{OpenCall}
@@ -36,6 +37,7 @@ use Rattle.steps.specs.declared.cores.Core.TheInside.{Inside}
 use Rattle.steps.proofs.Closed.{closed_calls, closed_locks, closed_starts, is_under, notes_are, within}
 use Rattle.steps.proofs.Forward.{reverse_push}
 use Rattle.steps.proofs.Ready.{progress_is}
+use Rattle.steps.proofs.Slots.{tracked_on}
 use Rattle.steps.proofs.Standing.{good, phase_is, some_open}
 use Rattle.steps.proofs.Small.{beyond, now_as, small_more, small_now}
 use Rattle.steps.proofs.Events.{initial_good}
@@ -46,6 +48,11 @@ kept_by : (start phase : Phase) (x : Option Cell) (y : Cell) (v : Option Version
 kept_by start phase None y v = refl
 kept_by start phase (Some z) y None = refl
 kept_by start phase (Some z) y (Some v) = refl
+
+-- a call leaves the cut where it is
+before_answer : (n s : ℕ) (o : Open) (h : List Record) → before n (answer s o ∷ h) ≡ before n h
+unfolding before
+before_answer n s o h = refl
 
 some_by : (x : Option Cell) (y : Cell) → is_some (undo_of x y) ≡ is_some x
 some_by None y = refl
@@ -146,7 +153,7 @@ module _ {A : Type 0} (c : Inside A) (ok : IsCore c) (s : ℕ) (call : OpenCall 
       (log_is : log.records ≡ c.log.records ++ record_made o ∷ []) (calls_are : calls.items ≡ slice_set c.calls.items s None)
       (versions : (q : Bytes) → versions_in store q ≡ cond (o == COMMITTED) (all_kept call.start c.phase (map noted_of call.notes.items) (versions_in c.store) q) (all_undone (map noted_of call.notes.items) (versions_in c.store) q))
       (collecting : (q : Bytes) → has changed.collecting q ≡ cond (o == COMMITTED) (is_some (first_noted (map noted_of call.notes.items) q) || has c.changed.collecting q) (has c.changed.collecting q))
-      (frozen : changed.frozen ≡ c.changed.frozen) (locks_are : locks ≡ without_locks c.locks s) (starts : active ≡ slice_set c.active s None) (last_is : last.items ≡ slice_set c.last.items s (Some call.number)) (most : records store ≤ stored.RECORDS) where
+      (frozen : changed.frozen ≡ c.changed.frozen) (locks_are : locks ≡ without_locks c.locks s) (starts : active ≡ slice_set c.active s None) (last_is : last.items ≡ slice_set c.last.items s (Some call.number)) (most : records store ≤ stored.RECORDS) (keys : KeepsSlots c.store store) where
     ended_here : has_ended opened.0.machine ≡ true
     ended_here = ap (λ (p : Progress). is_nil p.rest) opened.2.progress ∙ ends
 
@@ -197,6 +204,9 @@ module _ {A : Type 0} (c : Inside A) (ok : IsCore c) (s : ℕ) (call : OpenCall 
         frozen = λ q. ok.stands.frozen q ∙ ap (λ f. has f q) (sym frozen);
         locks = closed_locks c ok s (subst (λ n. s < n) (ok.sessions ∙ sym ok.tables) (within c ok s call is)) locks locks_are;
         phase = ok.stands.phase;
+        checkpoint =
+            tracked_on c.checkpoint c.store store c.changed.frozen changed.frozen ok.world.phase ok.world.number ok.world.finished ok.world.kind (length (before ok.world.number ok.world.log)) (length (before ok.world.number (answer s opened.0 ∷ ok.world.log))) ok.world.visited ok.world.bound ok.world.given ok.world.images
+            keys frozen (ap length (before_answer ok.world.number s opened.0 ok.world.log)) ok.stands.checkpoint;
       };
       lawful = ok.lawful;
       small = smaller (commit ok.world s opened.0) (commits_here so) ok.stands.catalog ok.stands.opening (longer_log o outcome log.records log_is) (closed_calls c ok s (within c ok s call is) calls.items calls_are) (committed_versions so);
@@ -221,6 +231,9 @@ module _ {A : Type 0} (c : Inside A) (ok : IsCore c) (s : ℕ) (call : OpenCall 
         frozen = λ q. ok.stands.frozen q ∙ ap (λ f. has f q) (sym frozen);
         locks = closed_locks c ok s (subst (λ n. s < n) (ok.sessions ∙ sym ok.tables) (within c ok s call is)) locks locks_are;
         phase = ok.stands.phase;
+        checkpoint =
+            tracked_on c.checkpoint c.store store c.changed.frozen changed.frozen ok.world.phase ok.world.number ok.world.finished ok.world.kind (length (before ok.world.number ok.world.log)) (length (before ok.world.number (answer s opened.0 ∷ ok.world.log))) ok.world.visited ok.world.bound ok.world.given ok.world.images
+            keys frozen (ap length (before_answer ok.world.number s opened.0 ok.world.log)) ok.stands.checkpoint;
       };
       lawful = ok.lawful;
       small = smaller (abort ok.world s opened.0) (aborts_here not_so) ok.stands.catalog ok.stands.opening (longer_log o outcome log.records log_is) (closed_calls c ok s (within c ok s call is) calls.items calls_are) (aborted_versions not_so);
@@ -244,7 +257,7 @@ module _ {A : Type 0} (c : Inside A) (ok : IsCore c) (s : ℕ) (call : OpenCall 
         subst (λ (w : CoreView). Finishes w (view_of (after_answer log store locks changed calls active last)) s u) same
         (subst (λ (x : Underway). Finishes (view_of c) (view_of (after_answer log store locks changed calls active last)) s x) which
         (record {
-          same = record { catalog = refl; opening = refl; calls = ap (map (option_map underway)) calls_are ∙ map-set (option_map underway) c.calls.items s None };
+          same = record { catalog = refl; opening = refl; checkpoint = refl; calls = ap (map (option_map underway)) calls_are ∙ map-set (option_map underway) c.calls.items s None };
           log = log_is ∙ ap (λ (n : ℕ). c.log.records ++ Call s call.number call.procedure call.machine.args n call.machine.progress.replies ∷ []) outcome
               ∙ ap (λ (p : Progress). c.log.records ++ Call s call.number call.procedure call.machine.args p.outcome p.replies ∷ []) progress_here;
           slots = slots;

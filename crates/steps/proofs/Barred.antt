@@ -40,7 +40,7 @@ any_found p (Some d ∷ l) e = by (p d) refl e (any_found p l)
     by true f e more = record { at = zero; call = d; is = refl; holds = f }
     by false f e more = further p (Some d) l (more e)
 
-any_none : (p : Underway → Bool) (l : List (Option Underway)) → any_open p l ≡ false → (t : ℕ) (d : Underway) → slice_index_or l t None ≡ Some d → p d ≡ false
+pub any_none : (p : Underway → Bool) (l : List (Option Underway)) → any_open p l ≡ false → (t : ℕ) (d : Underway) → slice_index_or l t None ≡ Some d → p d ≡ false
 any_none p [] e t d is = none_some is
 any_none p (None ∷ l) e zero d is = none_some is
 any_none p (None ∷ l) e (suc t) d is = any_none p l e t d is

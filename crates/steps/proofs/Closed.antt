@@ -12,12 +12,14 @@ use Rattle.locktable.proofs.Changing.{releases_one_session}
 use Rattle.record_store.specs.Stores.{Slots}
 use Rattle.steps.specs.CoreFields.{IsCore, IsOpen, SameCall, call_at, held, start_of, underway, view_of}
 use Rattle.steps.specs.CoreViews.{CoreView, Underway, GivesUp, front_of, table_now, open_at, replaced}
-use Rattle.steps.specs.Edits.{all_undone, first_noted, noted_of, versions_in}
+use Rattle.steps.specs.Backwards.{before}
+use Rattle.steps.specs.Edits.{KeepsSlots, all_undone, first_noted, noted_of, versions_in}
 use Rattle.steps.specs.Good.{undo_of}
 use Rattle.steps.specs.World.{Open, Gives_up, more, put, give_up, now, undone_key}
 use Rattle.steps.specs.declared.calls.OpenCall.{OpenCall}
 use Rattle.steps.specs.declared.cores.Core.TheInside.{Inside}
 use Rattle.steps.proofs.Refused.{shown_at}
+use Rattle.steps.proofs.Slots.{tracked_on}
 use Rattle.steps.proofs.Standing.{good, now_is, some_open}
 
 within_list : {X : Type 0} (l : List (Option X)) (s : ℕ) (k : X) → slice_index_or l s None ≡ Some k → s < length l
@@ -64,8 +66,8 @@ module _ {A : Type 0} (c : Inside A) (ok : IsCore c) (s : ℕ) where
     abbrev opened : (o : Open) × (ok.world.calls s ≡ Some o) × IsOpen call o
     opened = some_open c ok s call is
 
-    pub give_up_core : calls.items ≡ slice_set c.calls.items s None → ((q : Bytes) → versions_in store q ≡ all_undone (map noted_of call.notes.items) (versions_in c.store) q) → locks ≡ without_locks c.locks s → active ≡ slice_set c.active s None → IsCore (gave_up calls store locks active)
-    give_up_core e versions f h = record {
+    pub give_up_core : calls.items ≡ slice_set c.calls.items s None → ((q : Bytes) → versions_in store q ≡ all_undone (map noted_of call.notes.items) (versions_in c.store) q) → KeepsSlots c.store store → locks ≡ without_locks c.locks s → active ≡ slice_set c.active s None → IsCore (gave_up calls store locks active)
+    give_up_core e versions keys f h = record {
       world = give_up ok.world s opened.0;
       run = more ok.run (Gives_up s opened.0 opened.1);
       stands = record {
@@ -78,6 +80,9 @@ module _ {A : Type 0} (c : Inside A) (ok : IsCore c) (s : ℕ) where
         frozen = ok.stands.frozen;
         locks = closed_locks (subst (λ n. s < n) (ok.sessions ∙ sym ok.tables) (within call is)) locks f;
         phase = ok.stands.phase;
+        checkpoint =
+            tracked_on c.checkpoint c.store store c.changed.frozen c.changed.frozen ok.world.phase ok.world.number ok.world.finished ok.world.kind (length (before ok.world.number ok.world.log)) (length (before ok.world.number ok.world.log)) ok.world.visited ok.world.bound ok.world.given ok.world.images
+            keys refl refl ok.stands.checkpoint;
       };
       lawful = ok.lawful;
       small = ok.small;
@@ -114,7 +119,7 @@ module _ {A : Type 0} (c : Inside A) (ok : IsCore c) (s : ℕ) where
     give_up_view v same e versions slots =
         subst (λ (w : CoreView). GivesUp w (view_of (gave_up calls store locks active)) s) same
         (record {
-          same = record { catalog = refl; opening = refl; calls = ap (map (option_map underway)) e ∙ map-set (option_map underway) c.calls.items s None };
+          same = record { catalog = refl; opening = refl; checkpoint = refl; calls = ap (map (option_map underway)) e ∙ map-set (option_map underway) c.calls.items s None };
           log = refl;
           slots = slots;
           versions = λ u there q. versions q ∙ ap (λ x. undone_key x (versions_in c.store q)) (notes_are q ∙ ap (λ w. replaced (view_of c) w q) (is_under u there));

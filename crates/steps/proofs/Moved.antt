@@ -20,6 +20,7 @@ use Rattle.procedure.proofs.Faults.{code_within, no_first_fault, procedures_lawf
 use Rattle.locktable.specs.Locks.{Locks, mode_of}
 use Rattle.record_store.specs.Stores.{Slots}
 use Rattle.steps.specs.Advances.{Advances, SameOpen, becomes_in, lacks_place, seen_in, touch_in}
+use Rattle.steps.specs.Backwards.{before}
 use Rattle.steps.specs.CoreFields.{IsCore, IsOpen, SameCall, call_at, held, mode_by, start_of, underway, view_of}
 use Rattle.steps.specs.CoreViews.{CoreView, OfOpen, Steps, Underway, becomes_next, front_of, is_barred, one_more, open_at, stepped_as, table_now, touch_next}
 use Rattle.steps.specs.Edits.{first_noted, noted_of, versions_in}
@@ -35,6 +36,7 @@ use Rattle.steps.proofs.Barred.{barred_excluded, free_clear, unbarred_free}
 use Rattle.steps.proofs.Closed.{is_under, within}
 use Rattle.steps.proofs.Granted.{length_held_so, other_locks, own_locks}
 use Rattle.steps.proofs.Ready.{open_is, progress_is}
+use Rattle.steps.proofs.Slots.{tracked_on}
 use Rattle.steps.proofs.Standing.{phase_is, some_open}
 
 -- the procedures of a core have few instructions
@@ -202,6 +204,7 @@ module _ {A : Type 0} (c : Inside A) (ok : IsCore c) (s : ℕ) (call : OpenCall 
         frozen = ok.stands.frozen;
         locks = λ t q. locks_are t q ∙ ok.stands.locks t q;
         phase = ok.stands.phase;
+        checkpoint = ok.stands.checkpoint;
       };
       lawful = ok.lawful;
       small = ok.small;
@@ -306,6 +309,9 @@ module _ {A : Type 0} (c : Inside A) (ok : IsCore c) (s : ℕ) (call : OpenCall 
         frozen = ok.stands.frozen;
         locks = next_locks;
         phase = ok.stands.phase;
+        checkpoint =
+            tracked_on c.checkpoint c.store store c.changed.frozen c.changed.frozen ok.world.phase ok.world.number ok.world.finished ok.world.kind (length (before ok.world.number ok.world.log)) (length (before ok.world.number ok.world.log)) ok.world.visited ok.world.bound ok.world.given ok.world.images
+            advances.on.keys refl refl ok.stands.checkpoint;
       };
       lawful = ok.lawful;
       small = ok.small;
@@ -330,7 +336,7 @@ module _ {A : Type 0} (c : Inside A) (ok : IsCore c) (s : ℕ) (call : OpenCall 
         subst (λ (w : CoreView). Steps w (view_of (with_step calls store locks)) s x) same
         (subst (λ (y : Underway). Steps v (view_of (with_step calls store locks)) s y) which
         (record {
-          same = record { catalog = refl; opening = refl; calls = ap (map (option_map underway)) calls_are ∙ map-set (option_map underway) c.calls.items s (Some d) ∙ ap (λ y. slice_set v.calls s (Some y)) next_shown };
+          same = record { catalog = refl; opening = refl; checkpoint = refl; calls = ap (map (option_map underway)) calls_are ∙ map-set (option_map underway) c.calls.items s (Some d) ∙ ap (λ y. slice_set v.calls s (Some y)) next_shown };
           log = refl;
           versions = λ q.
               advances.on.versions q

@@ -25,16 +25,16 @@ use Rattle.record_store.specs.ChangedSets.{has, no_keys}
 use Rattle.std.specs.FinMap as fin
 use Rattle.std.proofs.lemmas.List.{length-replicate}
 use Rattle.std.proofs.lemmas.List.Elements.{recursion_from_All}
-use Rattle.steps.specs.CoreFields.{IsCore, SameCall, call_at, start_of, underway, view_of}
+use Rattle.steps.specs.CoreFields.{IsCore, SameCall, call_at, checkpoint_of, start_of, underway, view_of}
 use Rattle.record_store.proofs.Versions.{version_of-new}
 use Rattle.record_store.specs.Stores.{records}
 use Rattle.record_store.specs.declared.limits.TheConstants.{RECORDS}
-use Rattle.steps.specs.CoreViews.{IsSmall}
+use Rattle.steps.specs.CoreViews.{CheckpointView, IsSmall}
 use Rattle.steps.proofs.Events.{initial_good}
 use Rattle.steps.proofs.Small.{small_none, small_now}
 use Rattle.steps.specs.Backwards.{after}
 use Rattle.steps.specs.Edits.{shown, versions_in}
-use Rattle.steps.specs.Openings.{IsOpened, is_opening, opened_with, with_opened}
+use Rattle.steps.specs.Openings.{IsOpened, is_opening, no_checkpoint, opened_with, with_opened}
 use Rattle.steps.specs.World.{Version, Versions, Runs, initial, opened, wrote}
 use Rattle.steps.specs.World as machine
 use Rattle.steps.specs.declared.calls.OpenCall.{OpenCall}
@@ -147,7 +147,8 @@ none_held (suc n) (suc s) q = none_held n s q
 
 module _ {A : Type 0} (c : Inside A) (lawful : catalog_fault c.catalog ≡ None) (log : c.log.records ≡ []) (calls : c.calls.items ≡ replicate SESSIONS None) (last : c.last.items ≡ replicate SESSIONS None)
     (locks : c.locks ≡ replicate SESSIONS fin.empty) (active : c.active ≡ replicate SESSIONS None) (collecting : c.changed.collecting ≡ no_keys) (frozen : c.changed.frozen ≡ no_keys) (phase : c.phase ≡ Rest)
-    (versions : (q : Bytes) → versions_in c.store q ≡ opened (value_at (table_of c.opening) q)) (most : records c.store ≤ RECORDS) where
+    (versions : (q : Bytes) → versions_in c.store q ≡ opened (value_at (table_of c.opening) q)) (most : records c.store ≤ RECORDS)
+    (checkpoint : checkpoint_of c.checkpoint ≡ no_checkpoint) (number : c.checkpoint.number ≡ 0) (finished : c.checkpoint.finished ≡ 0) where
   free : (s : ℕ) → SameCall (call_at c s) None
   free s = subst (λ (o : Option (OpenCall A)). SameCall o None) (sym (ap (λ (l : List (Option (OpenCall A))). slice_index_or l s None) calls ∙ none_kept SESSIONS s)) tt
 
@@ -171,6 +172,14 @@ module _ {A : Type 0} (c : Inside A) (lawful : catalog_fault c.catalog ≡ None)
       frozen = λ q. sym (ap (λ k. has k q) frozen ∙ ap is_some (fin.get-empty by_bytes q));
       locks = λ s q. ap (λ l. mode_of l s q) locks ∙ none_held SESSIONS s q;
       phase = sym phase;
+      checkpoint = record {
+        number = sym number;
+        finished = sym finished;
+        kind = sym (ap (λ (k : CheckpointView). k.kind) checkpoint);
+        place = λ cutting. absurd (true≢false (sym cutting));
+        scan = tt;
+        waits = λ i is. absurd (let none : None ≡ Some i = sym (ap (λ (k : CheckpointView). k.waiting) checkpoint) ∙ is in cc);
+      };
     };
     lawful = lawful;
     small = subst (IsSmall c.catalog (table_of c.opening)) (sym log) (small_none c.catalog (table_of c.opening) begun_small);
@@ -186,6 +195,7 @@ module _ {A : Type 0} (c : Inside A) (lawful : catalog_fault c.catalog ≡ None)
     catalog = refl;
     opening = refl;
     log = log;
+    checkpoint = checkpoint;
     calls = ap (map (option_map (underway {A = A}))) calls ∙ map-replicate (option_map (underway {A = A})) SESSIONS None;
     versions = versions;
   }

@@ -34,12 +34,12 @@ calls_of-reverse (Call s n p args o r ∷ h) =
     ∙ ap (λ l. l ++ (Call s n p args o r ∷ [])) (calls_of-reverse h) ∙ sym (reverse_push (Call s n p args o r) (calls_of h))
 
 -- a checkpoint with a cut has its place
-has_place : (n : ℕ) (h : List Record) → cyclic h → (n ≡ 0) ⊎ resolves n h → HasPlace n h
+pub has_place : (n : ℕ) (h : List Record) → cyclic h → (n ≡ 0) ⊎ resolves n h → HasPlace n h
 has_place n h c (inl e) = subst (λ k. HasPlace k h) (sym e) (cut-none h (before_zero h c))
 has_place n h c (inr x) = cut-reverse n h c x
 
 -- a cut of the log is one of the machine's history
-stood : (n : ℕ) (h : List Record) → cuts.HasCut (reverse h) n → (n ≡ 0) ⊎ resolves n h
+pub stood : (n : ℕ) (h : List Record) → cuts.HasCut (reverse h) n → (n ≡ 0) ⊎ resolves n h
 stood n h (inl e) = inl e
 stood n h (inr x) = inr (stands-resolves n h x)
 

@@ -8,6 +8,7 @@ use Rattle.commitlog.specs.Histories.{last_number}
 use Rattle.commitlog.specs.Logs.{Log}
 use Rattle.record_store.specs.ChangedSets.{ChangedSets, has}
 use Rattle.commitlog.specs.declared.limits.TheConstants.{RECORDS}
+use Rattle.steps.specs.Backwards.{before}
 use Rattle.steps.specs.CoreFields.{IsCore, call_at, underway, view_of}
 use Rattle.image.specs.Merges.{table_of}
 use Rattle.steps.specs.CoreViews.{CoreView, IsSmall, Underway, OfOpen, front_of, open_at}
@@ -17,6 +18,7 @@ use Rattle.steps.specs.declared.cores.Core.TheInside.{Inside}
 use Rattle.steps.specs.declared.errors.FinishError.TheVariants as refused
 use Rattle.steps.proofs.Closed.{machine_is}
 use Rattle.steps.proofs.Refused.{shown_at}
+use Rattle.steps.proofs.Slots.{slots_same, tracked_on}
 use Rattle.steps.proofs.Standing.{some_open}
 
 pub going : (p : Progress) → ended p ≡ None → is_nil p.rest ≡ false
@@ -105,6 +107,9 @@ module _ {A : Type 0} where
       frozen = λ q. ok.stands.frozen q ∙ ap (λ k. has k q) (sym h);
       locks = ok.stands.locks;
       phase = ok.stands.phase;
+      checkpoint =
+          tracked_on c.checkpoint c.store c.store c.changed.frozen changed.frozen ok.world.phase ok.world.number ok.world.finished ok.world.kind (length (before ok.world.number ok.world.log)) (length (before ok.world.number ok.world.log)) ok.world.visited ok.world.bound ok.world.given ok.world.images
+          (slots_same c.store c.store refl) h refl ok.stands.checkpoint;
     };
     lawful = ok.lawful;
     small = subst (IsSmall c.catalog (table_of c.opening)) (sym e) ok.small;

@@ -34,11 +34,11 @@ version_of-new : (q : Bytes) → stored.version_of [] q ≡ None
 unfolding stored.version_of
 version_of-new q = refl
 
-version_of-vacant : (slots : store.Slots) (q : Bytes) → stored.version_of (None ∷ slots) q ≡ stored.version_of slots q
+pub version_of-vacant : (slots : store.Slots) (q : Bytes) → stored.version_of (None ∷ slots) q ≡ stored.version_of slots q
 unfolding stored.version_of
 version_of-vacant slots q = refl
 
-version_of-other : (r : store.Record) (slots : store.Slots) (q : Bytes) → same q r.key ≡ false → stored.version_of (Some r ∷ slots) q ≡ stored.version_of slots q
+pub version_of-other : (r : store.Record) (slots : store.Slots) (q : Bytes) → same q r.key ≡ false → stored.version_of (Some r ∷ slots) q ≡ stored.version_of slots q
 unfolding stored.version_of
 version_of-other r slots q e = ap (λ b. cond b (Some (stored.version r)) (stored.version_of slots q)) e
 
@@ -50,11 +50,11 @@ len-no_table : fin.len no_table ≡ 0
 unfolding no_table
 len-no_table = fin.len-empty by_bytes Bytes
 
-same_is : (q k : Bytes) → same q k ≡ eq_by_cmp by_bytes q k
+pub same_is : (q k : Bytes) → same q k ≡ eq_by_cmp by_bytes q k
 unfolding same
 same_is q k = refl
 
-at_most_one : (b : Bool) (n m k : ℕ) → n ≡ cond b (m - 1) m → n ≤ k → m ≤ 1 + k
+pub at_most_one : (b : Bool) (n m k : ℕ) → n ≡ cond b (m - 1) m → n ≤ k → m ≤ 1 + k
 at_most_one true n m k e le = omega (arith, e, le)
 at_most_one false n m k e le = omega (arith, e, le)
 
@@ -121,7 +121,7 @@ shown_some : (o : Option stored.Version) → is_some (option_map shown o) ≡ tr
 shown_some None e = e
 shown_some (Some v) e = refl
 
-version_there : (slots : store.Slots) (q : Bytes) → is_some (versions_in slots q) ≡ true → is_some (stored.version_of slots q) ≡ true
+pub version_there : (slots : store.Slots) (q : Bytes) → is_some (versions_in slots q) ≡ true → is_some (stored.version_of slots q) ≡ true
 unfolding versions_in
 version_there slots q e = shown_some (stored.version_of slots q) e
 

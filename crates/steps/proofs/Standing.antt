@@ -142,6 +142,7 @@ module _ {A : Type 0} where
         frozen = ok.stands.frozen;
         locks = begin_locks free;
         phase = ok.stands.phase;
+        checkpoint = ok.stands.checkpoint;
       };
       lawful = ok.lawful;
       small = ok.small;

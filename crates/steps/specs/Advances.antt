@@ -7,7 +7,7 @@ use Rattle.procedure.specs.declared.needs.Access.TheVariants as access
 use Rattle.procedure.specs.Runs.{Execution, advanced, next_need}
 use Rattle.phase.specs.declared.phases.Phase.{Phase}
 use Rattle.record_store.specs.Stores.{Slots}
-use Rattle.steps.specs.Edits.{first_noted, noted_of, versions_in}
+use Rattle.steps.specs.Edits.{KeepsSlots, first_noted, noted_of, versions_in}
 use Rattle.steps.specs.Refusals.{is_full, makes_record}
 use Rattle.steps.specs.World.{found, live_of, note, noted, wrote, wrote_key}
 use Rattle.steps.specs.declared.calls.OpenCall.{OpenCall}
@@ -56,6 +56,7 @@ module _ {A : Type 0} where
     pub machine : d.machine ≡ fed_with (live_of (versions_in s key)) c.machine
     pub notes : (q : Bytes) → first_noted (map noted_of d.notes.items) q ≡ cond (same q key) (note (first_noted (map noted_of c.notes.items) key) (live_of (versions_in s key))) (first_noted (map noted_of c.notes.items) q)
     pub versions : (q : Bytes) → versions_in t q ≡ cond (same q key) (Some (wrote phase c.start (versions_in s key) live)) (versions_in s q)
+    pub keys : KeepsSlots s t
 
   -- one instruction more
   pub record GoesOn (phase : Phase) (s : Slots) (c : OpenCall A) (t : Slots) (d : OpenCall A) : Type 0 where
@@ -63,6 +64,7 @@ module _ {A : Type 0} where
     pub machine : d.machine ≡ fed_with (seen_in s c.machine) c.machine
     pub notes : (q : Bytes) → first_noted (map noted_of d.notes.items) q ≡ noted (touch_in c.machine) (becomes_in s c.machine) (versions_in s) (first_noted (map noted_of c.notes.items)) q
     pub versions : (q : Bytes) → versions_in t q ≡ wrote_key phase c.start (touch_in c.machine) (becomes_in s c.machine) (versions_in s) q
+    pub keys : KeepsSlots s t
 
   pub record Advances (phase : Phase) (s : Slots) (c : OpenCall A) (t : Slots) (d : OpenCall A) : Type 0 where
     pub on : GoesOn phase s c t d

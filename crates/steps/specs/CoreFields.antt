@@ -5,16 +5,20 @@ use Rattle.procedure.specs.Bytes.{Bytes}
 use Rattle.procedure.specs.declared.limits.TheConstants.{SESSIONS}
 use Rattle.procedure.specs.Catalogs.{catalog_fault}
 use Rattle.phase.specs.declared.phases.Phase.{Phase}
+use Rattle.phase.specs.declared.phases.Phase.TheVariants.{Rest}
 use Rattle.commitlog.specs.Histories.{last_number}
 use Rattle.image.specs.Merges.{table_of}
 use Rattle.locktable.specs.declared.modes.Mode.{Mode}
 use Rattle.locktable.specs.declared.modes.Mode.TheVariants.{Shared, Exclusive}
 use Rattle.locktable.specs.Locks.{mode_of}
 use Rattle.record_store.specs.ChangedSets.{has}
-use Rattle.steps.specs.CoreViews.{CoreView, IsSmall, Underway}
+use Rattle.steps.specs.Backwards.{before}
+use Rattle.steps.specs.CoreViews.{CheckpointView, CoreView, IsSmall, Underway}
 use Rattle.steps.specs.Edits.{first_noted, noted_of, versions_in}
+use Rattle.steps.specs.Scans.{IsTracked, spots}
 use Rattle.steps.specs.World.{Open, World, Runs, initial}
 use Rattle.steps.specs.declared.calls.OpenCall.{OpenCall}
+use Rattle.steps.specs.declared.checkpoints.Checkpoint.{Checkpoint}
 use Rattle.steps.specs.declared.notes.Note.{Note}
 use Rattle.steps.specs.declared.cores.Core.TheInside.{Inside}
 
@@ -33,11 +37,26 @@ module _ {A : Type 0} where
   abbrev pub underway : OpenCall A → Underway
   underway c = record { number = c.number; procedure = c.procedure; args = c.machine.args; start = c.start; count = c.executed }
 
+  -- a call that counts as begun at rest
+  abbrev pub restarted_call : OpenCall A → OpenCall A
+  restarted_call c = record c { start = Rest }
+
   abbrev pub start_of : Option (OpenCall A) → Option Phase
   start_of o = option_map (λ c. c.start) o
 
+  abbrev pub checkpoint_of : Checkpoint A → CheckpointView
+  checkpoint_of k = record { kind = k.kind; cursor = k.cursor; bound = k.bound; waiting = k.waiting }
+
   abbrev pub view_of : Inside A → CoreView
-  view_of c = record { catalog = c.catalog; opening = c.opening; log = c.log.records; calls = map (option_map underway) c.calls.items; slots = c.store }
+  view_of c =
+      record {
+        catalog = c.catalog;
+        opening = c.opening;
+        log = c.log.records;
+        calls = map (option_map underway) c.calls.items;
+        slots = c.store;
+        checkpoint = checkpoint_of c.checkpoint;
+      }
 
   -- a call as it is kept is the machine's
   pub record IsOpen (c : OpenCall A) (o : Open) : Type 0 where
@@ -77,6 +96,9 @@ module _ {A : Type 0} where
     pub frozen : (q : Bytes) → w.frozen q ≡ has c.changed.frozen q
     pub locks : (s : ℕ) (q : Bytes) → mode_of c.locks s q ≡ held (w.calls s) q
     pub phase : w.phase ≡ c.phase
+    pub checkpoint :
+        IsTracked c.checkpoint (spots c.checkpoint.kind c.store c.changed.frozen)
+        w.phase w.number w.finished w.kind (length (before w.number w.log)) w.visited w.bound w.given w.images
 
   pub record IsCore (c : Inside A) : Type 0 where
     pub world : World

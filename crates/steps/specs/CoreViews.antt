@@ -11,6 +11,7 @@ use Rattle.commitlog.specs.Records.{Record, Call}
 use Rattle.procedure.specs.declared.outcomes.TheConstants.{COMMITTED}
 use Rattle.commitlog.specs.Histories.{after, code_of, phase_of}
 use Rattle.image.specs.Images.{Image}
+use Rattle.image.specs.declared.images.Kind.{Kind}
 use Rattle.image.specs.Merges.{table_of}
 use Rattle.record_store.specs.Stores.{Slots}
 use Rattle.record_store.specs.declared.limits.TheConstants.{RECORDS}
@@ -28,12 +29,21 @@ pub record Underway : Type 0 where
   pub start : Phase
   pub count : ℕ
 
+-- the checkpoint that runs, or the last one that ran: its kind, the place that its scan visits next and the one that ends
+-- it, and its image, once it is finished and until it is taken
+pub record CheckpointView : Type 0 where
+  pub kind : Kind
+  pub cursor : ℕ
+  pub bound : ℕ
+  pub waiting : Option Image
+
 pub record CoreView : Type 0 where
   pub catalog : List Procedure
   pub opening : Image
   pub log : List Record
   pub calls : List (Option Underway)
   pub slots : Slots
+  pub checkpoint : CheckpointView
 
 -- at most 100,000 keys after every front of a log
 abbrev pub IsSmall : List Procedure → Table → List Record → Type 0
@@ -89,6 +99,7 @@ replaced v c q = undo_of (change_at (front_of v c).changes q) (value_at (table_n
 pub record SameBut (old new : CoreView) (s : ℕ) (call : Option Underway) : Type 0 where
   pub catalog : new.catalog ≡ old.catalog
   pub opening : new.opening ≡ old.opening
+  pub checkpoint : new.checkpoint ≡ old.checkpoint
   pub calls : new.calls ≡ slice_set old.calls s call
 
 -- what holds of a session's open call

@@ -1,13 +1,15 @@
 -- How the records of a store stand for the machine's versions, and what writes and undoing do to them.
-use Rattle.std.specs.Prelude.{ℕ, Bool, false, cond, List, [], ◌∷◌, Option, Some, None, is_some}
+use Rattle.std.specs.Prelude.{◌≡◌, ℕ, Bool, true, false, if◌then◌else◌, cond, List, [], ◌∷◌, Option, Some, None, is_some}
 use Rattle.std.specs.Option.{option_map}
 use Rattle.procedure.specs.Bytes.{Bytes, Cell, same}
 use Rattle.phase.specs.declared.phases.Phase.{Phase}
-use Rattle.record_store.specs.Stores.{Record, Slots, record_at}
+use Rattle.image.specs.declared.images.Kind.{Kind}
+use Rattle.image.specs.declared.images.Kind.TheVariants.{Full, Partial}
+use Rattle.record_store.specs.Stores.{Record, Slots, key_at, record_at}
 use Rattle.record_store.specs.Versions as stored
 use Rattle.record_store.specs.declared.records.Stable.{Stable}
 use Rattle.record_store.specs.declared.records.Stable.TheVariants.{Empty, Was}
-use Rattle.steps.specs.World.{Version, Versions, copied, undone, undone_key, kept_key}
+use Rattle.steps.specs.World.{Version, Versions, captured_at, copied, gives, undone, undone_key, kept_key}
 use Rattle.steps.specs.declared.notes.Note.{Note}
 
 abbrev pub cell_of : Stable Cell → Option Cell
@@ -25,6 +27,10 @@ shown v = record { live = v.live; stable = cell_of v.stable; available = v.avail
 -- what a key's record says
 unfoldable pub versions_in : Slots → Versions
 versions_in slots key = option_map shown (stored.version_of slots key)
+
+-- each key that has a record keeps its slot
+abbrev pub KeepsSlots : Slots → Slots → Type 0
+KeepsSlots old new = (slot : ℕ) (key : Bytes) → key_at old slot ≡ Some key → key_at new slot ≡ Some key
 
 -- the record, with another version
 abbrev pub with_version : Record → Version → Record
@@ -77,3 +83,31 @@ has_stable_at slots slot = has_stable (record_at slots slot)
 -- a version whose last write is undone
 abbrev pub undone_version : Cell → Version → Version
 undone_version x v = undone v.available x v
+
+-- a version whose record a scan visited
+abbrev pub captured : Version → Version
+captured v = captured_at v.available v
+
+-- what a scan is given by a record, if there is one: the key, and what it held at the cut
+abbrev pub given_at : Bytes → Option Version → Option Noted
+given_at key None = None
+given_at key (Some v) = option_map (λ x. (key, x)) (gives v)
+
+-- by that in a slot
+abbrev pub given_by : Option Record → Option Noted
+given_by None = None
+given_by (Some r) = given_at r.key (Some (shown (stored.version r)))
+
+-- by that of a key, if there is a key
+abbrev pub given_of : Versions → Option Bytes → Option Noted
+given_of vs None = None
+given_of vs (Some key) = given_at key (vs key)
+
+-- a full image keeps present values; a partial one keeps all that the scan of its keys is given
+abbrev pub is_kept : Kind → Noted → Bool
+is_kept Full e = is_some e.1
+is_kept Partial e = true
+
+abbrev pub kept_of : Kind → Option Noted → List Noted
+kept_of kind None = []
+kept_of kind (Some e) = if is_kept kind e then e ∷ [] else []

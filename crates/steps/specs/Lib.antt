@@ -6,9 +6,12 @@ pub mod Headline
 pub mod Promises
 pub mod CoreViews
 pub mod Refusals
+pub mod Checkpointing
 pub mod Openings
 pub mod Locked
 pub mod Advances
+pub mod CutImages
+pub mod Scans
 pub mod CoreFields
 pub mod Versions
 pub mod Schedules

@@ -6,8 +6,9 @@ use Rattle.procedure.specs.Table.{value_at}
 use Rattle.procedure.specs.declared.limits.TheConstants.{SESSIONS}
 use Rattle.phase.specs.declared.phases.Phase.TheVariants.{Rest}
 use Rattle.image.specs.Images.{Entry, Image}
+use Rattle.image.specs.declared.images.Kind.TheVariants.{Full}
 use Rattle.image.specs.Merges.{is_full, table_of}
-use Rattle.steps.specs.CoreViews.{CoreView}
+use Rattle.steps.specs.CoreViews.{CheckpointView, CoreView}
 use Rattle.steps.specs.Edits.{versions_in}
 use Rattle.steps.specs.World.{Versions, opened, wrote}
 
@@ -24,10 +25,15 @@ abbrev pub opened_with : Versions → List Entry → Versions
 opened_with vs [] = vs
 opened_with vs (e ∷ es) = opened_with (with_opened vs e) es
 
--- no call is open, the log is empty, and each key of the opening, and no other, has a record with its value
+-- no checkpoint ran
+abbrev pub no_checkpoint : CheckpointView
+no_checkpoint = record { kind = Full; cursor = 0; bound = 0; waiting = None }
+
+-- no call is open, no checkpoint ran, the log is empty, and each key of the opening, and no other, has a record with its value
 pub record IsOpened (c : List Procedure) (i : Image) (v : CoreView) : Type 0 where
   pub catalog : v.catalog ≡ c
   pub opening : v.opening ≡ i
   pub log : v.log ≡ []
   pub calls : v.calls ≡ replicate SESSIONS None
+  pub checkpoint : v.checkpoint ≡ no_checkpoint
   pub versions : (q : Bytes) → versions_in v.slots q ≡ opened (value_at (table_of i) q)

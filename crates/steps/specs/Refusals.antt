@@ -5,15 +5,26 @@ use Rattle.std.specs.Option.{option_or}
 use Rattle.procedure.specs.Bytes.{Bytes, Cell}
 use Rattle.procedure.specs.Procedures.{Procedure}
 use Rattle.procedure.specs.declared.limits.TheConstants.{SESSIONS, VALUE_BYTES}
-use Rattle.commitlog.specs.Histories.{last_number}
+use Rattle.phase.specs.declared.phases.Phase.{Phase}
+use Rattle.phase.specs.declared.phases.Phase.TheVariants.{Rest, Prepare, Resolve, Capture, Complete}
+use Rattle.commitlog.specs.Histories.{last_number, phase_of}
 use Rattle.commitlog.specs.declared.limits.TheConstants as log
 use Rattle.procedure.specs.Runs.{has_ended}
 use Rattle.procedure.specs.Needs.{Touch, Nothing, Reads, Writes}
 use Rattle.record_store.specs.Stores.{Slots, records}
 use Rattle.record_store.specs.declared.limits.TheConstants.{RECORDS}
-use Rattle.steps.specs.CoreViews.{CoreView, Underway, becomes_next, front_of, is_barred, open_at, touch_next}
+use Rattle.steps.specs.CoreViews.{CheckpointView, CoreView, Underway, any_open, becomes_next, front_of, is_barred, open_at, touch_next}
 use Rattle.steps.specs.Edits.{versions_in}
+use Rattle.steps.specs.Good.{is_cutting}
 use Rattle.steps.specs.World.{Versions}
+use Rattle.steps.specs.declared.errors.AbandonError.{AbandonError}
+use Rattle.steps.specs.declared.errors.AbandonError.TheVariants as abandoning
+use Rattle.steps.specs.declared.errors.AdvanceError.{AdvanceError}
+use Rattle.steps.specs.declared.errors.AdvanceError.TheVariants as advancing
+use Rattle.steps.specs.declared.errors.CaptureError.{CaptureError}
+use Rattle.steps.specs.declared.errors.CaptureError.TheVariants as capturing
+use Rattle.steps.specs.declared.errors.StartError.{StartError}
+use Rattle.steps.specs.declared.errors.StartError.TheVariants as starting
 use Rattle.steps.specs.declared.errors.StepError.{StepError}
 use Rattle.steps.specs.declared.errors.StepError.TheVariants as stepping
 use Rattle.steps.specs.declared.errors.FinishError.{FinishError}
@@ -111,3 +122,95 @@ unfinished v (Some c) =
 -- why a call isn't answered, want of memory apart
 abbrev pub finish_refusal : CoreView → (session : ℕ) → Option FinishError
 finish_refusal v session = unfinished v (open_at v session)
+
+-- CHECKPOINTS
+
+abbrev pub start_error_text : StartError → Bytes
+start_error_text starting.NotAtRest = codes "not at rest"
+start_error_text starting.NotTaken = codes "not taken"
+start_error_text starting.LogFull = codes "log full"
+start_error_text starting.NoMemory = codes "no memory"
+
+abbrev pub advance_error_text : AdvanceError → Bytes
+advance_error_text advancing.AtRest = codes "at rest"
+advance_error_text advancing.StillActive = codes "still active"
+advance_error_text advancing.NotScanned = codes "not scanned"
+advance_error_text advancing.LogFull = codes "log full"
+advance_error_text advancing.NoMemory = codes "no memory"
+
+abbrev pub capture_error_text : CaptureError → Bytes
+capture_error_text capturing.NotCapturing = codes "not capturing"
+capture_error_text capturing.NoMemory = codes "no memory"
+
+abbrev pub abandon_error_text : AbandonError → Bytes
+abandon_error_text abandoning.NotAbandonable = codes "not abandonable"
+abandon_error_text abandoning.LogFull = codes "log full"
+abandon_error_text abandoning.NoMemory = codes "no memory"
+
+abbrev pub is_log_full : CoreView → Bool
+is_log_full v = length v.log == log.RECORDS
+
+abbrev pub is_rest : Phase → Bool
+is_rest Rest = true
+is_rest Prepare = false
+is_rest Resolve = false
+is_rest Capture = false
+is_rest Complete = false
+
+-- why a checkpoint doesn't start, want of memory apart
+abbrev pub start_refusal : CoreView → Option StartError
+start_refusal v =
+    option_or (unless (is_rest (phase_of v.log)) starting.NotAtRest)
+    (option_or (unless (is_none v.checkpoint.waiting) starting.NotTaken)
+    (unless (not (is_log_full v)) starting.LogFull))
+
+-- the place of a phase in their order
+abbrev pub rank : Phase → ℕ
+rank Rest = 0
+rank Prepare = 1
+rank Resolve = 2
+rank Capture = 3
+rank Complete = 4
+
+-- did the call start in another phase?
+abbrev pub started_elsewhere : Phase → Underway → Bool
+started_elsewhere p c = not (rank c.start == rank p)
+
+-- do open calls keep the phase from ending?
+abbrev pub is_held : Phase → List (Option Underway) → Bool
+is_held Rest calls = false
+is_held Prepare calls = any_open (started_elsewhere Prepare) calls
+is_held Resolve calls = any_open (started_elsewhere Resolve) calls
+is_held Capture calls = false
+is_held Complete calls = any_open (started_elsewhere Complete) calls
+
+-- does the scan keep it from ending?
+abbrev pub is_scanning : Phase → CheckpointView → Bool
+is_scanning Rest k = false
+is_scanning Prepare k = false
+is_scanning Resolve k = false
+is_scanning Capture k = nat_lt k.cursor k.bound
+is_scanning Complete k = false
+
+-- why the phase doesn't change, want of memory apart
+abbrev pub advance_refusal : CoreView → Option AdvanceError
+advance_refusal v =
+    option_or (unless (not (is_rest (phase_of v.log))) advancing.AtRest)
+    (option_or (unless (not (is_held (phase_of v.log) v.calls)) advancing.StillActive)
+    (option_or (unless (not (is_scanning (phase_of v.log) v.checkpoint)) advancing.NotScanned)
+    (unless (not (is_log_full v)) advancing.LogFull)))
+
+abbrev pub is_capture : Phase → Bool
+is_capture Rest = false
+is_capture Prepare = false
+is_capture Resolve = false
+is_capture Capture = true
+is_capture Complete = false
+
+-- why nothing is captured, want of memory apart
+abbrev pub capture_refusal : CoreView → Option CaptureError
+capture_refusal v = unless (is_capture (phase_of v.log)) capturing.NotCapturing
+
+-- why a checkpoint isn't abandoned, want of memory apart
+abbrev pub abandon_refusal : CoreView → Option AbandonError
+abandon_refusal v = option_or (unless (is_cutting (phase_of v.log)) abandoning.NotAbandonable) (unless (not (is_log_full v)) abandoning.LogFull)

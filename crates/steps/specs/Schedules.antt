@@ -1,12 +1,28 @@
 -- What the events of a schedule do to a core, and how they are answered.
-use Rattle.std.specs.Prelude.{◌≡◌, ◌↔◌, ℕ, Bool, true, false, List, [], ◌∷◌, ◌++◌, map, slice_index_or, slice_set, Option, Some, None, Ok, Err, OnOk, OnErr, IfOk, IsOk, IsSome, is_ok}
+use Rattle.std.specs.Prelude.{◌≡◌, ◌↔◌, ℕ, Bool, true, false, List, [], ◌∷◌, ◌++◌, map, slice_index_or, slice_set, Option, Some, None, Ok, Err, OnOk, OnErr, IfOk, IsOk, IfSome, IsSome, is_ok, is_some, suc}
 use Rattle.std.specs.declared.result.Result.{Result}
 use Rattle.procedure.specs.Bytes.{Bytes}
 use Rattle.commitlog.specs.Records.{Record, Call}
-use Rattle.commitlog.specs.Histories.{phase_of}
+use Rattle.phase.specs.Phases.{successor}
+use Rattle.phase.specs.declared.phases.Phase.{Phase}
+use Rattle.commitlog.specs.Histories.{number_of, phase_of}
+use Rattle.image.specs.Images.{Image}
+use Rattle.image.specs.Merges.{table_of}
+use Rattle.image.specs.declared.images.Kind.{Kind}
 use Rattle.steps.specs.CoreViews.{CoreView, Finishes, GivesUp, IsAnswer, OfOpen, Steps, front_of, one_more, open_at, stepped_as, with_call}
 use Rattle.steps.specs.Headline.{Begun}
-use Rattle.steps.specs.Refusals.{Answers, begin_refusal, finish_refusal, step_refusal}
+use Rattle.steps.specs.Checkpointing.{AdvancesTo, CapturesAs, abandoned, started, taken}
+use Rattle.steps.specs.CutImages.{IsTaken}
+use Rattle.steps.specs.Refusals.{Answers, abandon_refusal, advance_refusal, begin_refusal, capture_refusal, finish_refusal, start_refusal, step_refusal}
+use Rattle.steps.specs.declared.captures.Captured.{Captured}
+use Rattle.steps.specs.declared.errors.AbandonError.{AbandonError}
+use Rattle.steps.specs.declared.errors.AbandonError.TheVariants as abandoning
+use Rattle.steps.specs.declared.errors.AdvanceError.{AdvanceError}
+use Rattle.steps.specs.declared.errors.AdvanceError.TheVariants as advancing
+use Rattle.steps.specs.declared.errors.CaptureError.{CaptureError}
+use Rattle.steps.specs.declared.errors.CaptureError.TheVariants as capturing
+use Rattle.steps.specs.declared.errors.StartError.{StartError}
+use Rattle.steps.specs.declared.errors.StartError.TheVariants as starting
 use Rattle.steps.specs.declared.errors.BeginError.{BeginError}
 use Rattle.steps.specs.declared.errors.BeginError.TheVariants as beginning
 use Rattle.steps.specs.declared.errors.StepError.{StepError}
@@ -47,12 +63,46 @@ pub record GivesUpAs (old new : CoreView) (s : ℕ) (r : Result (Unit {0}) NotAc
   pub refused : OnErr r (new ≡ old)
   pub active : IsOk r ↔ IsSome (open_at old s)
 
+pub record StartsAs (old new : CoreView) (k : Kind) (r : Result ℕ StartError) : Type 0 where
+  pub started : OnOk r (new ≡ started old k)
+  pub number : IfOk r (λ n. n ≡ suc (number_of old.log))
+  pub refused : OnErr r (new ≡ old)
+  pub refusal : Answers (start_refusal old) starting.NoMemory r
+
+pub record AdvancesAs (old new : CoreView) (r : Result Phase AdvanceError) : Type 0 where
+  pub advanced : IfOk r (λ p. AdvancesTo p old new)
+  pub phase : IfOk r (λ p. p ≡ successor (phase_of old.log))
+  pub refused : OnErr r (new ≡ old)
+  pub refusal : Answers (advance_refusal old) advancing.NoMemory r
+
+pub record VisitsAs (old new : CoreView) (r : Result Captured CaptureError) : Type 0 where
+  pub captured : IfOk r (λ x. CapturesAs x old new)
+  pub refused : OnErr r (new ≡ old)
+  pub refusal : Answers (capture_refusal old) capturing.NoMemory r
+
+-- the image that waits is taken: it is that of its cut
+pub record TakesImage (old new : CoreView) (i : Option Image) : Type 0 where
+  pub image : i ≡ old.checkpoint.waiting
+  pub taken : new ≡ taken old
+  pub cut : IfSome i (λ i. IsTaken old.catalog (table_of old.opening) old.log i)
+
+pub record AbandonsAs (old new : CoreView) (r : Result ℕ AbandonError) : Type 0 where
+  pub abandoned : OnOk r (new ≡ abandoned old)
+  pub number : IfOk r (λ n. n ≡ number_of old.log)
+  pub refused : OnErr r (new ≡ old)
+  pub refusal : Answers (abandon_refusal old) abandoning.NoMemory r
+
 module _ {A : Type 0} where
   abbrev pub Handles : Event A → (old new : CoreView) → Reply A → Type 0
   Handles (event.Begin s n p args) old new x = (r : Result (Unit {0}) BeginError) × (x ≡ reply.Begin r) × BeginsAs old new s n p (map (λ b. b.items) args.items) r
   Handles (event.Step s) old new x = (r : Result Stepped StepError) × (x ≡ reply.Step r) × StepsAs old new s r
   Handles (event.Finish s) old new x = (r : Result (Answer A) FinishError) × (x ≡ reply.Finish r) × FinishesAs old new s r
   Handles (event.GiveUp s) old new x = (r : Result (Unit {0}) NotActive) × (x ≡ reply.GiveUp r) × GivesUpAs old new s r
+  Handles (event.Start k) old new x = (r : Result ℕ StartError) × (x ≡ reply.Start r) × StartsAs old new k r
+  Handles event.Advance old new x = (r : Result Phase AdvanceError) × (x ≡ reply.Advance r) × AdvancesAs old new r
+  Handles event.Capture old new x = (r : Result Captured CaptureError) × (x ≡ reply.Capture r) × VisitsAs old new r
+  Handles event.TakeImage old new x = (i : Option Image) × (x ≡ reply.TakeImage i) × TakesImage old new i
+  Handles event.Abandon old new x = (r : Result ℕ AbandonError) × (x ≡ reply.Abandon r) × AbandonsAs old new r
 
   -- ALL OF THEM
 
@@ -70,6 +120,11 @@ module _ {A : Type 0} where
   is_accepted (reply.Step r) = is_ok r
   is_accepted (reply.Finish r) = is_ok r
   is_accepted (reply.GiveUp r) = is_ok r
+  is_accepted (reply.Start r) = is_ok r
+  is_accepted (reply.Advance r) = is_ok r
+  is_accepted (reply.Capture r) = is_ok r
+  is_accepted (reply.TakeImage i) = is_some i
+  is_accepted (reply.Abandon r) = is_ok r
 
   -- with what each session's open call was begun, where an event is accepted
   abbrev pub begun_by : Event A → Bool → List (Option Begun) → List (Option Begun)
@@ -78,6 +133,11 @@ module _ {A : Type 0} where
   begun_by (event.Step s) true b = b
   begun_by (event.Finish s) true b = slice_set b s None
   begun_by (event.GiveUp s) true b = slice_set b s None
+  begun_by (event.Start k) true b = b
+  begun_by event.Advance true b = b
+  begun_by event.Capture true b = b
+  begun_by event.TakeImage true b = b
+  begun_by event.Abandon true b = b
 
   -- a call at its place, with what its begin gave and what its answer gives
   abbrev pub answered_call : ℕ → Option Begun → Answer A → List (ℕ × Record)
@@ -88,14 +148,43 @@ module _ {A : Type 0} where
   answer_to (event.Begin s n p args) r b = []
   answer_to (event.Step s) r b = []
   answer_to (event.GiveUp s) r b = []
+  answer_to (event.Start k) r b = []
+  answer_to event.Advance r b = []
+  answer_to event.Capture r b = []
+  answer_to event.TakeImage r b = []
+  answer_to event.Abandon r b = []
   answer_to (event.Finish s) (reply.Finish (Ok a)) b = answered_call s (slice_index_or b s None) a
   answer_to (event.Finish s) (reply.Finish (Err e)) b = []
   answer_to (event.Finish s) (reply.Begin r) b = []
   answer_to (event.Finish s) (reply.Step r) b = []
   answer_to (event.Finish s) (reply.GiveUp r) b = []
+  answer_to (event.Finish s) (reply.Start r) b = []
+  answer_to (event.Finish s) (reply.Advance r) b = []
+  answer_to (event.Finish s) (reply.Capture r) b = []
+  answer_to (event.Finish s) (reply.TakeImage i) b = []
+  answer_to (event.Finish s) (reply.Abandon r) b = []
 
   -- the calls of the accepted finishes, in order, each at the place that its answer gives
   abbrev pub answered_calls : List (Event A) → List (Reply A) → List (Option Begun) → List (ℕ × Record)
   answered_calls [] rs b = []
   answered_calls (e ∷ es) [] b = []
   answered_calls (e ∷ es) (r ∷ rs) b = answer_to e r b ++ answered_calls es rs (begun_by e (is_accepted r) b)
+
+  -- THE IMAGES THAT WERE TAKEN
+
+  abbrev pub image_in : Reply A → List Image
+  image_in (reply.Begin r) = []
+  image_in (reply.Step r) = []
+  image_in (reply.Finish r) = []
+  image_in (reply.GiveUp r) = []
+  image_in (reply.Start r) = []
+  image_in (reply.Advance r) = []
+  image_in (reply.Capture r) = []
+  image_in (reply.TakeImage None) = []
+  image_in (reply.TakeImage (Some i)) = i ∷ []
+  image_in (reply.Abandon r) = []
+
+  -- the images in the replies, in their order
+  abbrev pub images_in : List (Reply A) → List Image
+  images_in [] = []
+  images_in (r ∷ rs) = image_in r ++ images_in rs

@@ -6,6 +6,7 @@ ghost use Rattle.image.specs.Merges.{table_of};
 ghost use Rattle.steps.specs.CoreViews.{IsSmall};
 
 use crate::calls::OpenCall;
+use crate::checkpoints::Checkpoint;
 use commitlog::{Log, Record};
 use image::Image;
 use locktable::LockTable;
@@ -30,6 +31,7 @@ pub struct Core<A: Allocator> {
     pub(crate) active: Active,
     pub(crate) last: Vec<Option<u64>, A>,
     pub(crate) phase: Phase,
+    pub(crate) checkpoint: Checkpoint<A>,
 }
 
 impl<A: Allocator> Model for Core<A> {

@@ -8,7 +8,8 @@ ghost use Rattle.steps.specs.CoreViews.{CoreView, IsSmall};
 ghost use Rattle.steps.specs.Headline.{calls_of};
 ghost use Rattle.steps.specs.Openings.{IsOpened, is_opening};
 ghost use Rattle.steps.specs.Refusals.{Answers, unless};
-ghost use Rattle.steps.specs.Schedules.{HandlesAll, answered_calls};
+ghost use Rattle.steps.specs.CutImages.{AllTaken, ChainsAreCuts};
+ghost use Rattle.steps.specs.Schedules.{HandlesAll, answered_calls, images_in};
 ghost use Rattle.steps.specs.Drives.{EachStands, IsDriven};
 ghost use Rattle.steps.specs.declared.errors.OpenError.TheVariants as refused;
 
@@ -24,10 +25,8 @@ use std::alloc::Allocator;
 pub struct Run<A: Allocator> {
     /// The core after the last event.
     pub core: Core<A>,
-    /// One reply for each event, in order.
+    /// One reply for each event, in order. An image that an event took is in its reply.
     pub answers: Vec<Reply<A>, A>,
-    /// The images that were taken, in order. No event takes one yet.
-    pub images: Vec<Image<A>, A>,
 }
 
 /// The events, one after another; their replies go into the list, which has room for them.
@@ -47,7 +46,8 @@ fn handle_all<A: Allocator + Clone>(
 
 /// Opens a core and carries out the events, one after another, each with one reply. The log is then one
 /// history of one thread, in which every answered call stands once, at the place that its answer gives,
-/// and no other call.
+/// and no other call. Each image that was taken is that of its checkpoint's cut, and each chain of them
+/// merges to the table at the last one's cut.
 ///
 /// It is refused where the core isn't opened, and by `NoMemory` where there is no room for the replies.
 pub fn drive<A: Allocator + Copy>(
@@ -63,7 +63,8 @@ pub fn drive<A: Allocator + Copy>(
     ensures small { IfOk result (λ r. IsSmall r.core.catalog (table_of r.core.opening) r.core.log) }
     ensures calls { IfOk result (λ r. calls_of r.core.log ≡ map (λ x. x.1) (answered_calls events.items r.answers.items (replicate SESSIONS None))) }
     ensures places { IfOk result (λ r. EachStands r.core.log (answered_calls events.items r.answers.items (replicate SESSIONS None))) }
-    ensures images { IfOk result (λ r. r.images.items ≡ []) }
+    ensures images { IfOk result (λ r. AllTaken r.core.catalog (table_of r.core.opening) r.core.log (images_in r.answers.items)) }
+    ensures chains { IfOk result (λ r. ChainsAreCuts r.core.catalog (table_of r.core.opening) r.core.log (images_in r.answers.items)) }
     ensures refusal { Answers (unless (is_opening opening) refused.NotAnOpening) refused.NoMemory result }
 {
     let mut core = Core::open(alloc, catalog, opening)?;
@@ -74,9 +75,5 @@ pub fn drive<A: Allocator + Copy>(
     handle_all(&mut core, events, &mut answers);
     // Brings in what holds of the log of every core.
     let _records = core.records();
-    Ok(Run {
-        core,
-        answers,
-        images: Vec::new(alloc),
-    })
+    Ok(Run { core, answers })
 }

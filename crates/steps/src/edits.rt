@@ -8,7 +8,7 @@ ghost use Rattle.record_store.specs.ChangedSets.{has, room};
 ghost use Rattle.record_store.specs.declared.stores.CreateError.TheVariants.{TableFull};
 ghost use Rattle.record_store.specs.declared.limits.TheConstants.{RECORDS};
 ghost use Rattle.steps.specs.World.{copied, is_late, kept, kept_key, live_of, undone_key, wrote};
-ghost use Rattle.steps.specs.Edits.{available_at, has_stable_at, undone_version, all_kept, all_undone, edited, first_noted, noted_of, versions_in, written};
+ghost use Rattle.steps.specs.Edits.{KeepsSlots, available_at, has_stable_at, undone_version, all_kept, all_undone, edited, first_noted, noted_of, versions_in, written};
 
 use crate::notes::Note;
 use phase::Phase;
@@ -112,6 +112,7 @@ pub(crate) fn write_key<A: Allocator + Clone>(
 ) -> Result<Option<Value<A>>, CreateError>
     ensures before { IfOk result (λ before. before ≡ live_of (versions_in store.old key)) }
     ensures ok { OnOk result ((q : Bytes) → versions_in store.new q ≡ cond (same q key) (Some (wrote phase start (versions_in store.old key) live)) (versions_in store.old q)) }
+    ensures keys { KeepsSlots store.old store.new }
     ensures err { OnErr result (store.new ≡ store.old) }
     ensures full { (result ≡ Err TableFull) ↔ (RECORDS ≤ records store.old) × (versions_in store.old key ≡ None) }
 {
@@ -162,6 +163,7 @@ fn undo_record<A: Allocator>(store: &mut Store<A>, slot: usize, before: Option<V
 
 /// The live version before a write comes back.
 fn undo_note<A: Allocator>(store: &mut Store<A>, note: Note<A>)
+    ensures keys { KeepsSlots store.old store.new }
     ensures slots { length store.new ≡ length store.old }
     ensures versions { (q : Bytes) → versions_in store.new q ≡ cond (same q note.key) (undone_key (Some note.before) (versions_in store.old note.key)) (versions_in store.old q) }
 {
@@ -173,6 +175,7 @@ fn undo_note<A: Allocator>(store: &mut Store<A>, note: Note<A>)
 
 /// All writes of a call are undone, the last one first.
 pub(crate) fn undo_all<A: Allocator>(store: &mut Store<A>, mut notes: Vec<Note<A>, A>)
+    ensures keys { KeepsSlots store.old store.new }
     ensures slots { length store.new ≡ length store.old }
     ensures versions { (q : Bytes) → versions_in store.new q ≡ all_undone (map noted_of notes.items) (versions_in store.old) q }
 {
@@ -194,6 +197,7 @@ fn keep_record<A: Allocator>(store: &mut Store<A>, slot: usize, start: Phase, ph
 /// A key's write is kept: the status of its record, by the phase in which the call started and that of
 /// now.
 fn keep_key<A: Allocator>(store: &mut Store<A>, key: &Key, start: Phase, phase: Phase)
+    ensures keys { KeepsSlots store.old store.new }
     ensures slots { length store.new ≡ length store.old }
     ensures versions { (q : Bytes) → versions_in store.new q ≡ cond (same q key.now) (kept_key start phase (Some None) (versions_in store.old key.now)) (versions_in store.old q) }
 {
@@ -210,6 +214,7 @@ pub(crate) fn keep_all<A: Allocator>(
     start: Phase,
     phase: Phase,
 )
+    ensures keys { KeepsSlots store.old store.new }
     ensures slots { length store.new ≡ length store.old }
     ensures versions { (q : Bytes) → versions_in store.new q ≡ all_kept start phase (map noted_of notes.now) (versions_in store.old) q }
 {

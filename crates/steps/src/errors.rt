@@ -155,3 +155,113 @@ impl From<NoMemory> for BeginError {
         BeginError::NoMemory
     }
 }
+
+/// Why a checkpoint isn't started. The first that holds, in this order, is answered.
+#[derive(Clone, Copy, Debug, PartialEq, Eq)]
+pub enum StartError {
+    /// A checkpoint runs.
+    NotAtRest,
+    /// The image of the one before was not taken.
+    NotTaken,
+    /// The log has 1,000,000 records.
+    LogFull,
+    NoMemory,
+}
+
+impl fmt::Display for StartError {
+    ghost use Rattle.steps.specs.Refusals.{start_error_text};
+
+    ghost output = { λ e. Some (start_error_text e) };
+
+    fn fmt<W: fmt::Write>(&self, f: &mut fmt::Formatter<W>) -> fmt::Result {
+        f.write_str(match self {
+            StartError::NotAtRest => "not at rest",
+            StartError::NotTaken => "not taken",
+            StartError::LogFull => "log full",
+            StartError::NoMemory => "no memory",
+        })
+    }
+}
+
+impl Error for StartError {}
+
+/// Why the phase doesn't change. The first that holds, in this order, is answered.
+#[derive(Clone, Copy, Debug, PartialEq, Eq)]
+pub enum AdvanceError {
+    /// No checkpoint runs.
+    AtRest,
+    /// In prepare, resolve or complete, an open call started in another phase.
+    StillActive,
+    /// In capture, the scan has places left.
+    NotScanned,
+    /// The log has 1,000,000 records.
+    LogFull,
+    NoMemory,
+}
+
+impl fmt::Display for AdvanceError {
+    ghost use Rattle.steps.specs.Refusals.{advance_error_text};
+
+    ghost output = { λ e. Some (advance_error_text e) };
+
+    fn fmt<W: fmt::Write>(&self, f: &mut fmt::Formatter<W>) -> fmt::Result {
+        f.write_str(match self {
+            AdvanceError::AtRest => "at rest",
+            AdvanceError::StillActive => "still active",
+            AdvanceError::NotScanned => "not scanned",
+            AdvanceError::LogFull => "log full",
+            AdvanceError::NoMemory => "no memory",
+        })
+    }
+}
+
+impl Error for AdvanceError {}
+
+/// Why nothing is captured. The first that holds, in this order, is answered.
+#[derive(Clone, Copy, Debug, PartialEq, Eq)]
+pub enum CaptureError {
+    /// The phase isn't capture.
+    NotCapturing,
+    NoMemory,
+}
+
+impl fmt::Display for CaptureError {
+    ghost use Rattle.steps.specs.Refusals.{capture_error_text};
+
+    ghost output = { λ e. Some (capture_error_text e) };
+
+    fn fmt<W: fmt::Write>(&self, f: &mut fmt::Formatter<W>) -> fmt::Result {
+        f.write_str(match self {
+            CaptureError::NotCapturing => "not capturing",
+            CaptureError::NoMemory => "no memory",
+        })
+    }
+}
+
+impl Error for CaptureError {}
+
+/// Why a checkpoint isn't abandoned. The first that holds, in this order, is answered.
+#[derive(Clone, Copy, Debug, PartialEq, Eq)]
+pub enum AbandonError {
+    /// The phase is neither resolve nor capture.
+    NotAbandonable,
+    /// The log has 1,000,000 records.
+    LogFull,
+    NoMemory,
+}
+
+impl fmt::Display for AbandonError {
+    ghost use Rattle.steps.specs.Refusals.{abandon_error_text};
+
+    ghost output = { λ e. Some (abandon_error_text e) };
+
+    fn fmt<W: fmt::Write>(&self, f: &mut fmt::Formatter<W>) -> fmt::Result {
+        f.write_str(match self {
+            AbandonError::NotAbandonable => "not abandonable",
+            AbandonError::LogFull => "log full",
+            AbandonError::NoMemory => "no memory",
+        })
+    }
+}
+
+impl Error for AbandonError {}

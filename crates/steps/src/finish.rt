@@ -9,7 +9,7 @@ ghost use Rattle.commitlog.specs.declared.limits.TheConstants.{RECORDS};
 ghost use Rattle.record_store.specs.ChangedSets.{has, room};
 ghost use Rattle.record_store.specs.Stores.{records};
 ghost use Rattle.record_store.specs.declared.limits.TheConstants as stored;
-ghost use Rattle.steps.specs.Edits.{all_kept, all_undone, first_noted, noted_of, versions_in};
+ghost use Rattle.steps.specs.Edits.{KeepsSlots, all_kept, all_undone, first_noted, noted_of, versions_in};
 ghost use Rattle.steps.specs.CoreFields.{notes_at};
 ghost use Rattle.steps.specs.CoreViews.{Finishes, IsAnswer, OfOpen, front_of, open_at};
 ghost use Rattle.steps.specs.Refusals.{Answers, finish_refusal};
@@ -118,17 +118,19 @@ fn settle<A: Allocator>(
     ensures versions { (q : Bytes) → versions_in store.new q ≡ (if outcome == COMMITTED then all_kept start phase (map noted_of notes.items) (versions_in store.old) q else all_undone (map noted_of notes.items) (versions_in store.old) q) }
     ensures collecting { (q : Bytes) → has changed.new.collecting q ≡ (if outcome == COMMITTED then (is_some (first_noted (map noted_of notes.items) q) || has changed.old.collecting q) else has changed.old.collecting q) }
     ensures frozen { changed.new.frozen ≡ changed.old.frozen }
+    ensures keys { KeepsSlots store.old store.new }
     ensures slots { length store.new ≡ length store.old }
     ensures most { records store.new ≤ stored.RECORDS }
 {
     if outcome == COMMITTED {
         keep_all(store, notes.as_slice(), start, phase);
         collect(changed, notes.as_slice());
+        // Brings in that the store has at most 100,000 records, and so the table as many keys.
+        let _records = store.len();
     } else {
         undo_all(store, notes);
+        let _records = store.len();
     }
-    // Brings in that the store has at most 100,000 records, and so the table as many keys.
-    let _records = store.len();
 }
 
 fn copy_of_replies<A: Allocator + Clone>(

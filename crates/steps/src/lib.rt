@@ -9,6 +9,11 @@
 
 mod begin;
 mod calls;
+pub mod captures;
+#[cfg(test)]
+mod checkpoint_tests;
+mod checkpointing;
+mod checkpoints;
 pub mod cores;
 pub mod drives;
 mod edits;
@@ -30,9 +35,13 @@ pub mod step;
 mod tests;
 pub mod versions;
 
+pub use captures::Captured;
 pub use cores::Core;
 pub use drives::{Run, drive};
-pub use errors::{BeginError, FinishError, NotActive, OpenError, StepError};
+pub use errors::{
+    AbandonError, AdvanceError, BeginError, CaptureError, FinishError, NotActive, OpenError,
+    StartError, StepError,
+};
 pub use finish::Answer;
 pub use schedules::{Event, Reply};
 pub use step::Stepped;

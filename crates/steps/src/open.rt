@@ -12,6 +12,7 @@ ghost use Rattle.steps.specs.World.{opened};
 ghost use Rattle.steps.specs.declared.errors.OpenError.TheVariants as refused;
 
 use crate::calls::OpenCall;
+use crate::checkpoints::Checkpoint;
 use crate::cores::Core;
 use crate::edits::write_key;
 use crate::errors::OpenError;
@@ -108,6 +109,7 @@ fn build<A: Allocator + Copy>(
         active: Active::new(),
         last,
         phase: Phase::Rest,
+        checkpoint: Checkpoint::none(alloc),
     })
 }
 

@@ -4,9 +4,14 @@ use super::*;
 use crate::tests::{
     DELETE, DEPOSIT, GET, Given, MOVE, NEW, NOTHING, Pairs, SET, SWAP, arguments, beginning, opened,
 };
-use Deed::{Begin, Finish, GiveUp, Step};
+use Deed::{Abandon, Advance, Begin, Capture, Finish, GiveUp, Start, Step, Take};
 use Given::{Long, Number, Text};
-use Said::{Answers, Begins, GivesUp, Steps, Unfinished};
+use Said::{
+    Abandons, Answers, Begins, Captures, Enters, GivesUp, Starts, Steps, Takes, TakesNone,
+    Unfinished,
+};
+use image::{Entry, Kind};
+use phase::Phase;
 use procedure::{Key, NoMemory, Value};
 use record_store::Stable;
 use std::alloc::Global;
@@ -15,41 +20,53 @@ use std::test::Fail;
 
 /// An event: a begin has session, number, procedure and arguments.
 #[derive(Clone, Copy)]
-enum Deed<'a> {
+pub(crate) enum Deed<'a> {
     Begin(u16, u64, u16, &'a [Given<'a>]),
     Step(u16),
     Finish(u16),
     GiveUp(u16),
+    Start(Kind),
+    Advance,
+    Capture,
+    Take,
+    Abandon,
 }
 
-/// How it is answered: a finish with place, outcome and replies.
+/// How it is answered: a finish with place, outcome and replies, an image with kind, number, base,
+/// place and entries.
 #[derive(Clone, Copy)]
-enum Said<'a> {
+pub(crate) enum Said<'a> {
     Begins(Result<(), BeginError>),
     Steps(Result<Stepped, StepError>),
     Answers(usize, u8, &'a [Option<u64>]),
     Unfinished(FinishError),
     GivesUp(Result<(), NotActive>),
+    Starts(Result<u64, StartError>),
+    Enters(Result<Phase, AdvanceError>),
+    Captures(Result<Captured, CaptureError>),
+    Takes(Kind, u64, u64, u64, &'a [(&'a [u8], Option<u64>)]),
+    TakesNone,
+    Abandons(Result<u64, AbandonError>),
 }
 
-const BEGUN: Said<'static> = Begins(Ok(()));
+pub(crate) const BEGUN: Said<'static> = Begins(Ok(()));
 
 const RAN: Said<'static> = Steps(Ok(Stepped::Ran));
 
-const READY: Said<'static> = Steps(Ok(Stepped::Ready));
+pub(crate) const READY: Said<'static> = Steps(Ok(Stepped::Ready));
 
 const CONFLICT: Said<'static> = Steps(Err(StepError::Conflict));
 
 const TABLE_FULL: Said<'static> = Steps(Err(StepError::TableFull));
 
-const GIVEN_UP: Said<'static> = GivesUp(Ok(()));
+pub(crate) const GIVEN_UP: Said<'static> = GivesUp(Ok(()));
 
 /// An opening of so many numbers and these pairs, and what happens.
 #[derive(Clone, Copy)]
-struct Schedule<'a> {
-    numbers: u32,
-    pairs: Pairs<'a>,
-    lines: &'a [(Deed<'a>, Said<'a>)],
+pub(crate) struct Schedule<'a> {
+    pub(crate) numbers: u32,
+    pub(crate) pairs: Pairs<'a>,
+    pub(crate) lines: &'a [(Deed<'a>, Said<'a>)],
 }
 
 fn event(alloc: Global, deed: Deed<'_>) -> Result<Event<Global>, NoMemory> {
@@ -61,6 +78,11 @@ fn event(alloc: Global, deed: Deed<'_>) -> Result<Event<Global>, NoMemory> {
         Step(session) => Ok(Event::Step(session)),
         Finish(session) => Ok(Event::Finish(session)),
         GiveUp(session) => Ok(Event::GiveUp(session)),
+        Start(kind) => Ok(Event::Start(kind)),
+        Advance => Ok(Event::Advance),
+        Capture => Ok(Event::Capture),
+        Take => Ok(Event::TakeImage),
+        Abandon => Ok(Event::Abandon),
     }
 }
 
@@ -89,6 +111,18 @@ fn are_replies(replies: &[Option<Value<Global>>], said: &[Option<u64>]) -> bool 
     replies.len() == said.len()
 }
 
+fn are_entries(entries: &[Entry<Global>], said: &[(&[u8], Option<u64>)]) -> bool {
+    for (entry, one) in entries.iter().zip(said) {
+        if entry.key.as_bytes() != one.0
+            || number(entry.cell.as_ref()) != one.1
+            || entry.cell.is_some() != one.1.is_some()
+        {
+            return false;
+        }
+    }
+    entries.len() == said.len()
+}
+
 fn is_said(reply: &Reply<Global>, said: Said<'_>) -> bool {
     match (reply, said) {
         (Reply::Begin(answer), Begins(said)) => *answer == said,
@@ -100,6 +134,16 @@ fn is_said(reply: &Reply<Global>, said: Said<'_>) -> bool {
         }
         (Reply::Finish(Err(refused)), Unfinished(said)) => *refused == said,
         (Reply::GiveUp(answer), GivesUp(said)) => *answer == said,
+        (Reply::Start(answer), Starts(said)) => *answer == said,
+        (Reply::Advance(answer), Enters(said)) => *answer == said,
+        (Reply::Capture(answer), Captures(said)) => *answer == said,
+        (Reply::TakeImage(Some(image)), Takes(kind, number, base, place, entries)) => {
+            image.kind() == kind
+                && (image.number(), image.base(), image.place()) == (number, base, place)
+                && are_entries(image.entries(), entries)
+        }
+        (Reply::TakeImage(None), TakesNone) => true,
+        (Reply::Abandon(answer), Abandons(said)) => *answer == said,
         _ => false,
     }
 }
@@ -136,7 +180,11 @@ fn driven(alloc: Global, schedule: Schedule<'_>) -> Result<Vec<Reply<Global>>, F
 }
 
 /// A fault names the schedule and the line.
-fn run<R: Abort + AllocGlobal>(rt: &R, name: &str, schedule: Schedule<'_>) -> Result<(), Fail> {
+pub(crate) fn run<R: Abort + AllocGlobal>(
+    rt: &R,
+    name: &str,
+    schedule: Schedule<'_>,
+) -> Result<(), Fail> {
     let handled = handled(rt.alloc(), schedule)?;
     assert_eq!(rt; fault(handled.as_slice(), schedule.lines), None, "{name}");
     let driven = driven(rt.alloc(), schedule)?;

@@ -2,10 +2,16 @@
 
 ghost use Rattle.steps.specs.Schedules.{Handles};
 
+use crate::captures::Captured;
 use crate::cores::Core;
-use crate::errors::{BeginError, FinishError, NotActive, StepError};
+use crate::errors::{
+    AbandonError, AdvanceError, BeginError, CaptureError, FinishError, NotActive, StartError,
+    StepError,
+};
 use crate::finish::Answer;
 use crate::step::Stepped;
+use image::{Image, Kind};
+use phase::Phase;
 use std::alloc::Allocator;
 
 /// One call of a core, with what it is given.
@@ -19,6 +25,16 @@ pub enum Event<A: Allocator> {
     Finish(u16),
     /// A session gives up its call.
     GiveUp(u16),
+    /// A checkpoint of this kind begins.
+    Start(Kind),
+    /// The checkpoint enters its next phase.
+    Advance,
+    /// The scan of the checkpoint visits one place.
+    Capture,
+    /// The finished image is taken.
+    TakeImage,
+    /// The checkpoint is given up.
+    Abandon,
 }
 
 /// How an event was answered.
@@ -28,6 +44,15 @@ pub enum Reply<A: Allocator> {
     Step(Result<Stepped, StepError>),
     Finish(Result<Answer<A>, FinishError>),
     GiveUp(Result<(), NotActive>),
+    /// The number of the checkpoint.
+    Start(Result<u64, StartError>),
+    /// The phase that was entered.
+    Advance(Result<Phase, AdvanceError>),
+    Capture(Result<Captured, CaptureError>),
+    /// None where no image waited.
+    TakeImage(Option<Image<A>>),
+    /// The number of the checkpoint.
+    Abandon(Result<u64, AbandonError>),
 }
 
 impl<A: Allocator + Clone> Core<A> {
@@ -42,6 +67,11 @@ impl<A: Allocator + Clone> Core<A> {
             Event::Step(session) => Reply::Step(self.step(session)),
             Event::Finish(session) => Reply::Finish(self.finish(session)),
             Event::GiveUp(session) => Reply::GiveUp(self.give_up(session)),
+            Event::Start(kind) => Reply::Start(self.start(kind)),
+            Event::Advance => Reply::Advance(self.advance()),
+            Event::Capture => Reply::Capture(self.capture()),
+            Event::TakeImage => Reply::TakeImage(self.take_image()),
+            Event::Abandon => Reply::Abandon(self.abandon()),
         }
     }
 }

@@ -2,6 +2,7 @@ use Rattle.std.proofs.Common.{ap, ◌∙◌, sym, List, map, drop, ◌∷◌, �
 use Rattle.std.proofs.lemmas.List.{drop_more}
 use Rattle.steps.specs.declared.notes.Note.{Note}
 use Rattle.steps.specs.Edits.{all_kept, noted_of, versions_in}
+use Rattle.steps.proofs.Slots.{slots_then}
 use Rattle.steps.proofs.Edited.{kept_more}
 use Rattle.steps.proofs.edits.keep_all.Goals as goal
 
@@ -14,4 +15,5 @@ loop-note-preserved g c =
           (ap (λ (n : Note g.row.A.Denot). n ∷ left) c.note-item.is ∙ sym (drop_more c.args.notes.now i c.note-item.result c.loop-note-test.true))
           ∙ c.loop-note.invariant.0 q,
       c.keep_key.ensures.slots ∙ c.loop-note.invariant.1,
+      slots_then c.args.store.now c.loop-note.store c.keep_key.new.store c.loop-note.invariant.2 c.keep_key.ensures.keys,
     )

@@ -1,6 +1,8 @@
-use Rattle.std.proofs.Common.{ap, ◌∙◌}
+use Rattle.std.proofs.Common.{ap, ◌∙◌, refl, sym, subst}
 use Rattle.record_store.specs.Stores.{Slots}
-use Rattle.steps.specs.Edits.{versions_in}
+use Rattle.steps.specs.Edits.{KeepsSlots, edited, versions_in}
+use Rattle.steps.specs.World.{kept}
+use Rattle.steps.proofs.Slots.{slots_changed, slots_same}
 use Rattle.steps.proofs.Edited.{versions_kept, none_kept}
 use Rattle.steps.proofs.edits.keep_key.Goals as goal
 
@@ -10,3 +12,10 @@ returns-in-Some-clause-versions g c q =
 
 pub returns-in-None-clause-versions : goal.returns-in-None-clause-versions
 returns-in-None-clause-versions g c q = none_kept c.args.start c.args.phase c.args.store.now c.args.key.now q c.in-None.ensures.found
+
+pub returns-in-Some-clause-keys : goal.returns-in-Some-clause-keys
+returns-in-Some-clause-keys g c =
+    subst (λ (l : Slots). KeepsSlots c.args.store.now l) (sym c.keep_record.ensures) (slots_changed (edited (kept c.args.start c.args.phase)) (λ r. refl) c.args.store.now c.in-Some.slot)
+
+pub returns-in-None-clause-keys : goal.returns-in-None-clause-keys
+returns-in-None-clause-keys g c = slots_same c.args.store.now c.args.store.now refl

@@ -1,10 +1,11 @@
-use Rattle.std.proofs.Common.{◌≡◌, ap, ◌∙◌, sym, subst, None, Bool, IsSome, Err}
+use Rattle.std.proofs.Common.{◌≡◌, refl, ap, ◌∙◌, sym, subst, None, Bool, IsSome, Err}
 use Rattle.record_store.specs.Stores.{Slots, changed, live_at, with_record, new_record}
 use Rattle.procedure.specs.Bytes.{Bytes, Cell}
 use Rattle.record_store.specs.declared.stores.CreateError.{CreateError}
 use Rattle.record_store.specs.declared.stores.CreateError.TheVariants.{TableFull}
 use Rattle.steps.specs.World.{live_of}
-use Rattle.steps.specs.Edits.{versions_in, edited, written}
+use Rattle.steps.specs.Edits.{KeepsSlots, versions_in, edited, written}
+use Rattle.steps.proofs.Slots.{slots_changed, slots_created, slots_then}
 use Rattle.steps.proofs.Edited.{found_in, none_in, live_in, live_created, versions_written, versions_made}
 use Rattle.steps.proofs.edits.write_key.Goals as goal
 
@@ -49,3 +50,20 @@ returns-in-Err-create-clause-full g c =
       λ e. let is : c.in-Err-create.refused ≡ TableFull = cc in (c.in-Err-create.ensures.full.0 (ap (λ (x : CreateError). Err x) is), none),
       λ e. let is = c.in-Err-create.ensures.full.1 e.0 in let same : c.in-Err-create.refused ≡ TableFull = cc in ap (λ (x : CreateError). Err x) same,
     )
+
+pub returns-in-Ok-clause-keys : goal.returns-in-Ok-clause-keys
+returns-in-Ok-clause-keys g c =
+    subst (λ (l : Slots). KeepsSlots c.args.store.now l) (sym c.in-Ok.ensures.ok) (slots_changed (edited (written c.args.start c.args.live)) (λ r. refl) c.args.store.now c.in-Some.slot)
+
+pub returns-in-Ok-write_record-clause-keys : goal.returns-in-Ok-write_record-clause-keys
+returns-in-Ok-write_record-clause-keys g c =
+    let made : KeepsSlots c.args.store.now (with_record c.args.store.now c.in-Ok-create.slot (new_record c.args.key c.is_late.result)) =
+    slots_created c.args.store.now c.in-Ok-create.slot (new_record c.args.key c.is_late.result) c.in-Ok-create.ensures.vacant in
+    slots_then c.args.store.now c.create.new.self c.write_record-in-Ok-create.new.store
+    (subst (λ (l : Slots). KeepsSlots c.args.store.now l) (sym c.in-Ok-create.ensures.ok) made)
+    (subst (λ (l : Slots). KeepsSlots c.create.new.self l) (sym c.in-Ok-write_record.ensures.ok) (slots_changed (edited (written c.args.start c.args.live)) (λ r. refl) c.create.new.self c.in-Ok-create.slot))
+
+pub returns-in-Err-write_record-clause-keys : goal.returns-in-Err-write_record-clause-keys
+returns-in-Err-write_record-clause-keys g c =
+    let none = ap (λ (l : Slots). live_at l c.in-Ok-create.slot) c.in-Ok-create.ensures.ok ∙ live_created c.args.store.now c.in-Ok-create.slot c.args.key c.is_late.result in
+    absurd (let some : IsSome {T = Bytes} None = subst (λ (x : Cell). IsSome x) none c.in-Err-write_record.ensures.memory in cc)

@@ -1,0 +1,95 @@
+//! A reader and a writer for tests, which fail where they are told to and count it.
+
+use std::alloc::Global;
+use std::io::{Error, ErrorKind, Read, Result as IoResult, Write};
+
+/// More calls, and more bytes a call, than a test asks for.
+pub(crate) const PLENTY: usize = 1_000_000;
+
+fn failure(failures: &mut usize, kind: ErrorKind) -> Error {
+    *failures = failures.saturating_add(1);
+    Error::from(kind)
+}
+
+/// Keeps what is written, at most so many bytes a call, and fails after so many calls. A call that takes
+/// no byte of some is a failure too.
+#[derive(Drop)]
+pub(crate) struct Sink {
+    pub(crate) kept: Vec<u8, Global>,
+    most: usize,
+    calls: usize,
+    pub(crate) flushes: bool,
+    /// What it fails with. An interrupted write is tried again by all but `run_script`.
+    pub(crate) fault: ErrorKind,
+    pub(crate) failures: usize,
+}
+
+impl Sink {
+    pub(crate) fn new(alloc: Global, most: usize, calls: usize) -> Sink {
+        Sink {
+            kept: Vec::new(alloc),
+            most,
+            calls,
+            flushes: true,
+            fault: ErrorKind::Interrupted,
+            failures: 0,
+        }
+    }
+}
+
+impl Write for Sink {
+    fn write(&mut self, buf: &[u8]) -> IoResult<usize> {
+        if self.calls == 0 {
+            return Err(failure(&mut self.failures, self.fault));
+        }
+        self.calls -= 1;
+        let taken = buf.len().min(self.most);
+        if taken == 0 && !buf.is_empty() {
+            self.failures = self.failures.saturating_add(1);
+        }
+        self.kept.extend_from_slice(&buf[..taken])?;
+        Ok(taken)
+    }
+
+    fn flush(&mut self) -> IoResult<()> {
+        if self.flushes {
+            Ok(())
+        } else {
+            Err(failure(&mut self.failures, self.fault))
+        }
+    }
+}
+
+/// Gives its bytes, at most so many a call, and fails after so many calls.
+#[derive(Drop)]
+pub(crate) struct Source<'a> {
+    left: &'a [u8],
+    most: usize,
+    calls: usize,
+    pub(crate) failures: usize,
+}
+
+impl<'a> Source<'a> {
+    pub(crate) fn new(left: &'a [u8], most: usize, calls: usize) -> Source<'a> {
+        Source {
+            left,
+            most,
+            calls,
+            failures: 0,
+        }
+    }
+}
+
+impl Read for Source<'_> {
+    fn read(&mut self, buf: &mut [u8]) -> IoResult<usize> {
+        if self.calls == 0 {
+            return Err(failure(&mut self.failures, ErrorKind::Interrupted));
+        }
+        self.calls -= 1;
+        let given = self.left.len().min(self.most).min(buf.len());
+        let (now, later) = self.left.split_at(given);
+        buf[..given].copy_from_slice(now);
+        self.left = later;
+        Ok(given)
+    }
+}

@@ -1,0 +1,149 @@
+//! Tests of the command line and of the statuses.
+
+use crate::device_tests::{ANSWERS, CALLS};
+use crate::devices::{PLENTY, Sink};
+use crate::growths::Fallible;
+use crate::program::perform;
+use std::alloc::{Allocator, Global};
+use std::fs;
+use std::io::ErrorKind;
+use std::rt::Files;
+use std::test::Fail;
+
+/// The status of the program, on a writer that stands for standard output, and its standard error.
+fn performed<R: Files + AllocGlobal, A: Allocator + Copy>(
+    rt: &R,
+    alloc: A,
+    words: &[&str],
+    out: &mut Sink,
+) -> (u8, Vec<u8, Global>)
+where
+    R::File: Drop,
+{
+    let mut err = Sink::new(rt.alloc(), PLENTY, PLENTY);
+    let status = perform(alloc, rt, words, out, &mut err);
+    (status, err.kept)
+}
+
+/// A run of a file: how many writes succeed, whether a flush does, and which growth is refused; then the
+/// status, standard output and standard error.
+#[derive(Clone, Copy)]
+struct Case<'a> {
+    file: &'a str,
+    writes: usize,
+    flushes: bool,
+    refused: u64,
+    status: u8,
+    out: &'a str,
+    err: &'a str,
+}
+
+const RIGHT: Case<'static> = Case {
+    file: "right",
+    writes: PLENTY,
+    flushes: true,
+    refused: 0,
+    status: 0,
+    out: ANSWERS,
+    err: "",
+};
+
+/// A folder can be opened, and its first read fails.
+const CASES: [Case<'static>; 7] = [
+    RIGHT,
+    Case {
+        writes: 1,
+        status: 1,
+        out: "place 0 committed\n",
+        err: "calcdb: cannot write output\n",
+        ..RIGHT
+    },
+    Case {
+        flushes: false,
+        status: 1,
+        err: "calcdb: cannot write output\n",
+        ..RIGHT
+    },
+    Case {
+        refused: 1,
+        status: 1,
+        out: "",
+        err: "calcdb: no memory\n",
+        ..RIGHT
+    },
+    Case {
+        file: "wrong",
+        status: 1,
+        out: "fault line 2\n",
+        ..RIGHT
+    },
+    Case {
+        file: "none",
+        status: 1,
+        out: "",
+        err: "calcdb: cannot read none\n",
+        ..RIGHT
+    },
+    Case {
+        file: ".",
+        status: 1,
+        out: "",
+        err: "calcdb: cannot read .\n",
+        ..RIGHT
+    },
+];
+
+#[test]
+fn statuses(rt: HostRuntime) -> Result<(), Fail> {
+    let heap = Fallible::new(rt.alloc());
+    fs::write(&rt, "right", CALLS)?;
+    fs::write(&rt, "wrong", "step 0\nstop 0\n")?;
+    for case in CASES {
+        let mut out = Sink::new(rt.alloc(), PLENTY, case.writes);
+        out.flushes = case.flushes;
+        heap.arm(case.refused);
+        let words = ["calcdb", "run", case.file];
+        let (status, err) = performed(&rt, &heap, words.as_slice(), &mut out);
+        assert_eq!(rt; status, case.status, "{}", case.err);
+        assert_eq!(rt; out.kept.as_slice(), case.out.as_bytes());
+        assert_eq!(rt; err.as_slice(), case.err.as_bytes());
+    }
+    fs::remove_file(&rt, "right")?;
+    fs::remove_file(&rt, "wrong")?;
+    Ok(())
+}
+
+#[test]
+fn faulty_command_lines(rt: HostRuntime) {
+    let alloc = rt.alloc();
+    for words in [
+        ["calcdb", "stop"].as_slice(),
+        ["calcdb"].as_slice(),
+        ["calcdb", "run"].as_slice(),
+        ["calcdb", "run", "a", "b"].as_slice(),
+    ] {
+        let mut out = Sink::new(alloc, PLENTY, PLENTY);
+        let (status, err) = performed(&rt, alloc, words, &mut out);
+        assert!(rt; status == 2 && out.kept.is_empty() && !err.is_empty());
+    }
+}
+
+/// Help and the version stand on standard output, or it is said that they can't.
+#[test]
+fn shown_texts(rt: HostRuntime) {
+    let alloc = rt.alloc();
+    for word in ["--help", "--version"] {
+        let words = ["calcdb", word];
+        let mut out = Sink::new(alloc, PLENTY, PLENTY);
+        let (status, err) = performed(&rt, alloc, words.as_slice(), &mut out);
+        assert!(rt; status == 0 && !out.kept.is_empty() && err.is_empty());
+        for (writes, flushes) in [(0, true), (PLENTY, false)] {
+            let mut out = Sink::new(alloc, PLENTY, writes);
+            out.flushes = flushes;
+            out.fault = ErrorKind::Other;
+            let (status, err) = performed(&rt, alloc, words.as_slice(), &mut out);
+            assert_eq!(rt; status, 1);
+            assert_eq!(rt; err.as_slice(), "calcdb: cannot write output\n".as_bytes());
+        }
+    }
+}

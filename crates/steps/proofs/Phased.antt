@@ -1,0 +1,137 @@
+-- A core after its phase changed: into resolve, and to rest.
+use Rattle.std.proofs.Common.{◌≡◌, ℕ, false, cond, List, [], ◌∷◌, ◌++◌, Option, Some, None, is_some, map, option_map, length, refl, sym, ap, ◌∙◌, true≢false}
+use Rattle.std.proofs.lemmas.Bool.{eq-eqb}
+use Rattle.std.specs.FinMap as fin
+use Rattle.std.specs.Ordering.{nat_cmp}
+use Rattle.std.specs.Cmp.Lexicographic.{slice_cmp}
+use Rattle.procedure.specs.Bytes.{Bytes}
+use Rattle.phase.specs.declared.phases.Phase.{Phase}
+use Rattle.phase.specs.declared.phases.Phase.TheVariants.{Rest, Prepare, Resolve, Capture, Complete}
+use Rattle.commitlog.specs.Logs.{Log}
+use Rattle.commitlog.specs.Records.{Record, Token}
+use Rattle.record_store.proofs.Versions.{version_of-rested}
+use Rattle.record_store.specs.ChangedSets.{ChangedSets, KeySet, has, no_keys}
+use Rattle.record_store.specs.Stores.{Slots, at_rest}
+use Rattle.record_store.specs.Versions as stored
+use Rattle.steps.specs.Backwards.{before}
+use Rattle.steps.specs.Checkpointing.{entered, rested}
+use Rattle.steps.specs.CoreFields.{IsCore, view_of}
+use Rattle.steps.specs.CoreViews.{CoreView}
+use Rattle.steps.specs.Edits.{shown, versions_in}
+use Rattle.steps.specs.Refusals.{is_held}
+use Rattle.steps.specs.World.{Resolves, Rests, cleaned, more, resolve, rest}
+use Rattle.steps.specs.declared.cores.Core.TheInside.{Inside}
+use Rattle.steps.proofs.Entered.{number_is, token_last, token_log, token_small}
+use Rattle.steps.proofs.Forward.{length-reverse}
+use Rattle.steps.proofs.Leaving.{all_started}
+
+-- the records before the cut that is made now
+pub before_here : (n : ℕ) (h : List Record) → before n (Token Resolve n ∷ h) ≡ h
+unfolding before
+before_here n h = ap (λ b. cond b h (before n h)) (eq-eqb n n refl)
+
+-- a token of another phase leaves the cut where it is
+pub before_capture : (n m : ℕ) (h : List Record) → before n (Token Capture m ∷ h) ≡ before n h
+unfolding before
+before_capture n m h = refl
+
+pub none_in_empty : (q : Bytes) → has no_keys q ≡ false
+none_in_empty q = ap is_some (fin.get-empty (slice_cmp nat_cmp) q)
+
+module _ {A : Type 0} (c : Inside A) (ok : IsCore c) (log : Log) where
+  pub number_here : (p : Phase) → log.records ≡ c.log.records ++ Token p c.checkpoint.number ∷ [] → log.records ≡ c.log.records ++ Token p ok.world.number ∷ []
+  number_here p log_is = log_is ∙ ap (λ n. c.log.records ++ Token p n ∷ []) (sym ok.stands.checkpoint.number)
+
+  -- the log as the view says it
+  pub entered_log : (p : Phase) → log.records ≡ c.log.records ++ Token p c.checkpoint.number ∷ [] → log.records ≡ (entered (view_of c) p).log
+  entered_log p log_is = number_here p log_is ∙ ap (λ n. c.log.records ++ Token p n ∷ []) (number_is c ok)
+
+  module _ (changed : ChangedSets) (place : ℕ) (phase_is : c.phase ≡ Prepare) (free : is_held Prepare (view_of c).calls ≡ false) (log_is : log.records ≡ c.log.records ++ Token Resolve c.checkpoint.number ∷ []) (collecting : changed.collecting ≡ no_keys) (frozen : changed.frozen ≡ c.changed.collecting) (place_is : place ≡ length c.log.records) where
+    abbrev after_resolve : Inside A
+    after_resolve = record c { log = log; changed = changed; phase = Resolve; checkpoint = record c.checkpoint { place = place } }
+
+    pub resolve_core : IsCore after_resolve
+    resolve_core = record {
+      world = resolve ok.world;
+      run = more ok.run (Resolves (ok.stands.phase ∙ phase_is) (all_started c ok Prepare free));
+      stands = record {
+        catalog = ok.stands.catalog;
+        opening = ok.stands.opening;
+        log = token_log c ok Resolve ok.world.number log.records (number_here Resolve log_is);
+        calls = ok.stands.calls;
+        versions = ok.stands.versions;
+        collecting = λ q. sym (ap (λ (s : KeySet). has s q) collecting ∙ none_in_empty q);
+        frozen = λ q. ok.stands.collecting q ∙ ap (λ (s : KeySet). has s q) (sym frozen);
+        locks = ok.stands.locks;
+        phase = refl;
+        checkpoint = record {
+          number = ok.stands.checkpoint.number;
+          finished = ok.stands.checkpoint.finished;
+          kind = ok.stands.checkpoint.kind;
+          place = λ cutting. ap length (before_here ok.world.number ok.world.log) ∙ sym (length-reverse ok.world.log) ∙ ap length ok.stands.log ∙ sym place_is;
+          scan = tt;
+          waits = ok.stands.checkpoint.waits;
+        };
+      };
+      lawful = ok.lawful;
+      small = token_small c ok Resolve ok.world.number log.records (number_here Resolve log_is);
+      sessions = ok.sessions;
+      tables = ok.tables;
+      starts = ok.starts;
+      numbers = ok.numbers;
+      last = token_last c ok Resolve ok.world.number log.records (number_here Resolve log_is);
+    }
+
+    pub resolve_view : (v : CoreView) → view_of c ≡ v → view_of after_resolve ≡ entered v Resolve
+    resolve_view v same = ap (λ l. record (view_of c) { log = l }) (entered_log Resolve log_is) ∙ ap (λ w. entered w Resolve) same
+
+  rested_as : (o : Option stored.Version) → option_map shown (option_map stored.rested o) ≡ cleaned (option_map shown o)
+  rested_as None = refl
+  rested_as (Some v) = refl
+
+  -- the versions at rest
+  pub rested_versions : (slots : Slots) (q : Bytes) → versions_in (map (option_map at_rest) slots) q ≡ cleaned (versions_in slots q)
+  unfolding versions_in
+  rested_versions slots q = ap (option_map shown) (version_of-rested slots q) ∙ rested_as (stored.version_of slots q)
+
+  module _ (store : Slots) (phase_is : c.phase ≡ Complete) (free : is_held Complete (view_of c).calls ≡ false) (log_is : log.records ≡ c.log.records ++ Token Rest c.checkpoint.number ∷ []) (store_is : store ≡ map (option_map at_rest) c.store) where
+    abbrev after_rest : Inside A
+    after_rest = record c { log = log; store = store; phase = Rest }
+
+    pub rest_core : IsCore after_rest
+    rest_core = record {
+      world = rest ok.world;
+      run = more ok.run (Rests (ok.stands.phase ∙ phase_is) (all_started c ok Complete free));
+      stands = record {
+        catalog = ok.stands.catalog;
+        opening = ok.stands.opening;
+        log = token_log c ok Rest ok.world.number log.records (number_here Rest log_is);
+        calls = ok.stands.calls;
+        versions = λ q. ap cleaned (ok.stands.versions q) ∙ sym (rested_versions c.store q) ∙ ap (λ (l : Slots). versions_in l q) (sym store_is);
+        collecting = ok.stands.collecting;
+        frozen = ok.stands.frozen;
+        locks = ok.stands.locks;
+        phase = refl;
+        checkpoint = record {
+          number = ok.stands.checkpoint.number;
+          finished = ok.stands.checkpoint.finished;
+          kind = ok.stands.checkpoint.kind;
+          place = λ cutting. absurd (true≢false (sym cutting));
+          scan = tt;
+          waits = ok.stands.checkpoint.waits;
+        };
+      };
+      lawful = ok.lawful;
+      small = token_small c ok Rest ok.world.number log.records (number_here Rest log_is);
+      sessions = ok.sessions;
+      tables = ok.tables;
+      starts = ok.starts;
+      numbers = ok.numbers;
+      last = token_last c ok Rest ok.world.number log.records (number_here Rest log_is);
+    }
+
+    pub rest_view : (v : CoreView) → view_of c ≡ v → view_of after_rest ≡ rested (entered v Rest)
+    rest_view v same =
+        ap (λ l. record (view_of c) { log = l; slots = store }) (entered_log Rest log_is)
+        ∙ ap (λ l. record (entered (view_of c) Rest) { slots = l }) store_is
+        ∙ ap (λ w. rested (entered w Rest)) same

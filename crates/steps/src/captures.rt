@@ -1,0 +1,248 @@
+//! How the scan of a checkpoint goes, and how its image is finished.
+
+ghost use Rattle.std.specs.Prelude.{◌≡◌, ◌≤◌, ◌++◌, ◌+◌, ℕ, IfOk, None, OnErr, OnOk, IsSome, Some, option_copied, vec_capacity, vec_len};
+ghost use Rattle.phase.specs.declared.phases.Phase.TheVariants.{Capture, Complete, Resolve};
+ghost use Rattle.procedure.specs.Bytes.{Bytes};
+ghost use Rattle.commitlog.specs.Histories.{phase_of};
+ghost use Rattle.image.specs.Headers.{IsOnce, of_captured};
+ghost use Rattle.image.specs.Images.{IsLawful};
+ghost use Rattle.record_store.specs.Stores.{changed, key_at, record_at};
+ghost use Rattle.record_store.specs.Stores as recorded;
+ghost use Rattle.steps.specs.Checkpointing.{AdvancesTo, CapturesAs, visited};
+ghost use Rattle.steps.specs.Edits.{captured, edited, given_by, given_of, is_kept, kept_of, versions_in};
+ghost use Rattle.steps.specs.Refusals.{Answers, advance_refusal, capture_refusal};
+ghost use Rattle.steps.specs.Scans.{places, spots};
+ghost use Rattle.steps.specs.World.{base_at};
+ghost use Rattle.steps.specs.declared.errors.CaptureError.TheVariants as capturing;
+
+use crate::checkpointing::push_token;
+use crate::cores::Core;
+use crate::errors::CaptureError;
+use image::{Entry, Image, Kind};
+use phase::Phase;
+use procedure::{Key, NoMemory, Value};
+use record_store::{Changed, Record, Stable, Store};
+use std::alloc::Allocator;
+use std::mem;
+
+/// How a capture is answered.
+#[derive(Clone, Copy, Debug, PartialEq, Eq)]
+pub enum Captured {
+    /// One place of the scan was visited.
+    Slot,
+    /// The scan has no places left.
+    Done,
+}
+
+fn copy_of<A: Allocator + Clone>(live: Option<&Value<A>>) -> Result<Option<Value<A>>, NoMemory>
+    ensures { IfOk result (λ copy. copy ≡ option_copied live.entry) }
+{
+    match live {
+        Some(value) => Ok(Some(value.clone()?)),
+        None => Ok(None),
+    }
+}
+
+/// The key whose record a slot holds.
+fn key_in<A: Allocator>(store: &Store<A>, slot: usize) -> Option<Key>
+    ensures { result ≡ key_at store.now slot }
+{
+    match store.slot(slot) {
+        Some(Record { key, .. }) => Some(key),
+        None => None,
+    }
+}
+
+/// How many places a scan visits: slots, or frozen keys.
+fn places<A: Allocator>(kind: Kind, store: &Store<A>, changed: &Changed<A>) -> usize
+    ensures { result ≡ places kind store.now changed.now.frozen }
+{
+    match kind {
+        Kind::Full => store.slots(),
+        Kind::Partial => changed.frozen_count(),
+    }
+}
+
+/// The key at a place of a scan: of a slot, or of the frozen keys in their order.
+fn key_at_place<A: Allocator>(
+    kind: Kind,
+    store: &Store<A>,
+    changed: &Changed<A>,
+    place: usize,
+) -> Option<Key>
+    ensures { result ≡ spots kind store.now changed.now.frozen place }
+{
+    match kind {
+        Kind::Full => key_in(store, place),
+        Kind::Partial => changed.frozen_key(place),
+    }
+}
+
+/// Visits the record in a slot, and gives what it held at the cut: its stable version where it is
+/// available, and else a copy of the live one. All memory is taken first.
+fn visit_slot<A: Allocator + Clone>(
+    store: &mut Store<A>,
+    slot: usize,
+) -> Result<Option<Entry<A>>, NoMemory>
+    ensures ok { OnOk result (store.new ≡ changed (edited captured) store.old slot) }
+    ensures given { IfOk result (λ given. given ≡ given_by (record_at store.old slot)) }
+    ensures err { OnErr result (store.new ≡ store.old) }
+{
+    match store.slot(slot) {
+        None => Ok(None),
+        Some(
+            Record {
+                key,
+                available: true,
+                ..
+            },
+        ) => match store.take_stable(slot) {
+            Stable::Was(cell) => Ok(Some(Entry { key, cell })),
+            Stable::Empty => Ok(None),
+        },
+        Some(Record { key, live, .. }) => {
+            let cell = copy_of(live)?;
+            store.set_available(slot, true);
+            Ok(Some(Entry { key, cell }))
+        }
+    }
+}
+
+/// Visits the record of a key, where it has one. No other slot has the key, as `find` tells.
+fn visit<A: Allocator + Clone>(
+    store: &mut Store<A>,
+    key: Option<Key>,
+) -> Result<Option<Entry<A>>, NoMemory>
+    ensures once { IsSome key → recorded.IsOnce store.old }
+    ensures keys { OnOk result ((slot : ℕ) → key_at store.new slot ≡ key_at store.old slot) }
+    ensures versions { OnOk result ((q : Bytes) → versions_in store.new q ≡ visited key q (versions_in store.old q)) }
+    ensures given { IfOk result (λ given. given ≡ given_of (versions_in store.old) key) }
+    ensures err { OnErr result (store.new ≡ store.old) }
+{
+    match key {
+        Some(key) => match store.find(&key) {
+            Some(slot) => visit_slot(store, slot),
+            None => Ok(None),
+        },
+        None => Ok(None),
+    }
+}
+
+/// Keeps what a scan was given, if the image has it. There is room for it.
+fn keep<A: Allocator>(captured: &mut Vec<Entry<A>, A>, kind: Kind, given: Option<Entry<A>>)
+    requires { vec_len captured.old + 1 ≤ vec_capacity captured.old }
+    ensures { captured.new.items ≡ captured.old.items ++ kept_of kind given }
+{
+    match given {
+        Some(entry) if is_kept(kind, &entry) => captured.push_reserved(entry),
+        _ => {}
+    }
+}
+
+/// Whether an image of the kind has the entry. A partial scan visits keys of the image alone.
+fn is_kept<A: Allocator>(kind: Kind, entry: &Entry<A>) -> bool
+    ensures { result ≡ is_kept kind entry.now }
+{
+    match kind {
+        Kind::Full => entry.cell.is_some(),
+        Kind::Partial => true,
+    }
+}
+
+/// The image of what was captured, each key once.
+fn image_of<A: Allocator>(
+    kind: Kind,
+    number: u64,
+    finished: u64,
+    place: u64,
+    entries: Vec<Entry<A>, A>,
+) -> Image<A>
+    requires once { IsOnce entries.items }
+    requires lawful { IsLawful (of_captured kind number (base_at kind number finished) place entries.items) }
+    ensures { result ≡ of_captured kind number (base_at kind number finished) place entries.items }
+{
+    let base = match kind {
+        Kind::Full => number,
+        Kind::Partial => finished,
+    };
+    match Image::captured(kind, number, base, place, entries) {
+        Some(image) => image,
+        None => unreachable!(),
+    }
+}
+
+impl<A: Allocator + Clone> Core<A> {
+    /// From resolve into capture: the scan begins.
+    pub(crate) fn begin_scan(&mut self) -> Result<(), NoMemory>
+        requires phase { phase_of self.old.log ≡ Resolve }
+        requires free { advance_refusal self.old ≡ None }
+        ensures ok { OnOk result (AdvancesTo Capture self.old self.new) }
+        ensures err { OnErr result (self.new ≡ self.old) }
+    {
+        let bound = places(self.checkpoint.kind, &self.store, &self.changed);
+        push_token(&mut self.log, Phase::Capture, self.checkpoint.number)?;
+        self.checkpoint.cursor = 0;
+        self.checkpoint.bound = bound;
+        self.checkpoint.captured.clear();
+        self.phase = Phase::Capture;
+        Ok(())
+    }
+
+    /// The scan visits one place: a slot, or one of the keys that were written between the two cuts. It
+    /// keeps what the image has of the key there. Where no place is left nothing changes.
+    pub fn capture(&mut self) -> Result<Captured, CaptureError>
+        ensures captured { IfOk result (λ x. CapturesAs x self.old self.new) }
+        ensures refused { OnErr result (self.new ≡ self.old) }
+        ensures refusal { Answers (capture_refusal self.old) capturing.NoMemory result }
+    {
+        match self.phase {
+            Phase::Capture => {}
+            _ => return Err(CaptureError::NotCapturing),
+        }
+        if self.checkpoint.cursor == self.checkpoint.bound {
+            return Ok(Captured::Done);
+        }
+        if self.checkpoint.captured.reserve(1).is_err() {
+            return Err(CaptureError::NoMemory);
+        }
+        let key = key_at_place(
+            self.checkpoint.kind,
+            &self.store,
+            &self.changed,
+            self.checkpoint.cursor,
+        );
+        let given = match visit(&mut self.store, key) {
+            Ok(given) => given,
+            Err(NoMemory) => return Err(CaptureError::NoMemory),
+        };
+        keep(&mut self.checkpoint.captured, self.checkpoint.kind, given);
+        self.checkpoint.cursor += 1;
+        Ok(Captured::Slot)
+    }
+
+    /// From capture into complete: the image is finished, and waits to be taken.
+    pub(crate) fn complete(&mut self) -> Result<(), NoMemory>
+        requires phase { phase_of self.old.log ≡ Capture }
+        requires free { advance_refusal self.old ≡ None }
+        ensures ok { OnOk result (AdvancesTo Complete self.old self.new) }
+        ensures err { OnErr result (self.new ≡ self.old) }
+    {
+        // Brings in that the store has at most 100,000 records, and so the image as many entries.
+        let _records = self.store.len();
+        let empty = Vec::new(self.alloc.clone()?);
+        push_token(&mut self.log, Phase::Complete, self.checkpoint.number)?;
+        let entries = mem::replace(&mut self.checkpoint.captured, empty);
+        let image = image_of(
+            self.checkpoint.kind,
+            self.checkpoint.number,
+            self.checkpoint.finished,
+            self.checkpoint.place,
+            entries,
+        );
+        self.changed.clear_frozen();
+        self.checkpoint.finished = self.checkpoint.number;
+        self.checkpoint.waiting = Some(image);
+        self.phase = Phase::Complete;
+        Ok(())
+    }
+}
