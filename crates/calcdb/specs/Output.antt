@@ -66,6 +66,10 @@ header_text kind number base place count = kind_text kind ++ decimal number ++ c
 abbrev pub image_text : Image → Bytes
 image_text i = header_text i.kind i.number i.base i.place (length i.entries) ++ entries_text i.entries
 
+-- a key that was reclaimed
+abbrev pub key_text : Bytes → Bytes
+key_text key = codes "key " ++ value_text key ++ codes "\n"
+
 -- a word and a number
 abbrev pub numbered_text : Bytes → ℕ → Bytes
 numbered_text word n = word ++ decimal n ++ codes "\n"

@@ -21,7 +21,7 @@ use Rattle.std.specs.Io.KnownBytes.{Appends}
 use Rattle.calcdb.specs.Streams.{IsBegun}
 use Rattle.calcdb.specs.declared.faults.Fault.{Fault}
 use Rattle.calcdb.specs.declared.faults.Fault.TheVariants as fault
-use Rattle.calcdb.specs.Output.{answer_text, image_text, numbered_text, refused_text}
+use Rattle.calcdb.specs.Output.{answer_text, image_text, key_text, numbered_text, refused_text}
 use Rattle.calcdb.specs.declared.commands.Command.{Command}
 use Rattle.calcdb.specs.declared.commands.Command.TheVariants as command
 use Rattle.calcdb.specs.declared.commands.NewCall.{NewCall}
@@ -55,6 +55,8 @@ module _ {A : Type 0} where
   reply_text (reply.Capture (Err e)) = refused_text (capture_error_text e)
   reply_text (reply.TakeImage None) = codes "none\n"
   reply_text (reply.TakeImage (Some i)) = image_text i
+  reply_text (reply.Reclaim None) = codes "none\n"
+  reply_text (reply.Reclaim (Some key)) = key_text key
   reply_text (reply.Abandon (Ok n)) = numbered_text (codes "abandoned ") n
   reply_text (reply.Abandon (Err e)) = refused_text (abandon_error_text e)
 
@@ -68,6 +70,7 @@ module _ {A : Type 0} where
   Begins c event.Advance = ⊥
   Begins c event.Capture = ⊥
   Begins c event.TakeImage = ⊥
+  Begins c event.Reclaim = ⊥
   Begins c event.Abandon = ⊥
 
   -- the end of a call: one event, and where its reply is a refusal one by which the call is given up

@@ -150,6 +150,18 @@ fn push_entry<A: Allocator + Clone, B: Allocator>(
     }
 }
 
+/// The line of a key.
+pub(crate) fn push_key<A: Allocator + Clone>(
+    out: &mut Vec<u8, A>,
+    key: &[u8],
+) -> Result<(), NoMemory>
+    ensures { OnOk result (out.new.items ≡ out.old.items ++ spec.key_text key.now) }
+{
+    push_text(out, b"key ")?;
+    push_value(out, key)?;
+    push_text(out, b"\n")
+}
+
 fn push_entries<A: Allocator + Clone, B: Allocator>(
     out: &mut Vec<u8, A>,
     entries: &[Entry<B>],

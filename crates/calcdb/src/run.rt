@@ -9,7 +9,7 @@ ghost use Rattle.calcdb.specs.Runs.{Calls, Carried, Carries, CarriesAll, Ends, G
 
 use crate::commands::{Arguments, Command, NewCall};
 use crate::faults::Fault;
-use crate::output::{push_answer, push_image, push_numbered, push_refusal, push_text};
+use crate::output::{push_answer, push_image, push_key, push_numbered, push_refusal, push_text};
 use crate::streams::{WriteError, write_out};
 use phase::Phase;
 use procedure::NoMemory;
@@ -227,6 +227,8 @@ fn push_reply<A: Allocator + Clone>(out: &mut Vec<u8, A>, reply: &Reply<A>) -> R
         Reply::Capture(Err(refused)) => push_refusal(out, capture_error_name(*refused)),
         Reply::TakeImage(None) => push_text(out, b"none\n"),
         Reply::TakeImage(Some(image)) => push_image(out, image),
+        Reply::Reclaim(None) => push_text(out, b"none\n"),
+        Reply::Reclaim(Some(key)) => push_key(out, key.as_bytes()),
         Reply::Abandon(Ok(number)) => push_numbered(out, b"abandoned ", *number),
         Reply::Abandon(Err(refused)) => push_refusal(out, abandon_error_name(*refused)),
     }

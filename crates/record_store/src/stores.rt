@@ -191,9 +191,11 @@ impl<A: Allocator> Store<A> {
         }
     }
 
-    /// The slot of the least key of the dead records that aren't set aside.
+    /// The slot of the least key of the dead records that aren't set aside. No two slots have the same
+    /// key.
     pub fn least_candidate(&self) -> Option<usize>
-        ensures { IsLeastCandidate self.now result }
+        ensures least { IsLeastCandidate self.now result }
+        ensures once { IsOnce self.now }
     {
         self.dead.least()
     }

@@ -1,5 +1,5 @@
 -- A core after its checkpoint was abandoned.
-use Rattle.std.proofs.Common.{◌≡◌, ◌⊎◌, ◌||◌, List, [], ◌∷◌, ◌++◌, Option, Some, None, Vec, inl, inr, map, option_map, length, slice_index_or, refl, sym, ap, ◌∙◌, subst, true≢false}
+use Rattle.std.proofs.Common.{◌≡◌, ◌⊎◌, ◌||◌, List, [], ◌∷◌, ◌++◌, Option, Some, None, Vec, inl, inr, map, option_map, length, slice_index_or, refl, sym, ap, ◌∙◌, subst, true≢false, Bool, true, false}
 use Rattle.std.specs.Prelude.{◌==◌}
 use Rattle.std.proofs.Math.ListN.{get_or-map}
 use Rattle.std.proofs.lemmas.List.{length-map}
@@ -15,10 +15,12 @@ use Rattle.image.specs.Images.{Image}
 use Rattle.record_store.proofs.ChangedKeys.{has-union}
 use Rattle.record_store.specs.ChangedSets.{ChangedSets, KeySet, has, no_keys, union}
 use Rattle.record_store.specs.Stores.{Slots, at_rest}
+use Rattle.steps.proofs.SetAside.{aside_kept}
+use Rattle.steps.proofs.Slots.{slots_rested}
 use Rattle.steps.specs.Checkpointing.{abandoned, restarted}
-use Rattle.steps.specs.CoreFields.{IsCore, SameCall, call_at, held, restarted_call, start_of, underway, view_of}
+use Rattle.steps.specs.CoreFields.{IsCore, SameCall, call_at, held, restarted_call, start_of, underway, view_of, either}
 use Rattle.steps.specs.CoreViews.{CoreView, Underway}
-use Rattle.steps.specs.Edits.{versions_in}
+use Rattle.steps.specs.Edits.{versions_in, KeepsSlots}
 use Rattle.steps.specs.World as machine
 use Rattle.steps.specs.World.{Abandons, Open, abandon, cleaned, more}
 use Rattle.steps.specs.declared.calls.OpenCall.{OpenCall}
@@ -60,6 +62,16 @@ module _ {A : Type 0} where
     cutting : (ok.world.phase ≡ Resolve) ⊎ (ok.world.phase ≡ Capture)
     cutting = elim phase_is [ inl e ↦ inl (ok.stands.phase ∙ e) | inr e ↦ inr (ok.stands.phase ∙ e) ]
 
+    -- what was collected or frozen is collected
+    rejoined : (q : Bytes) → either c.changed q ≡ true → either changed q ≡ true
+    rejoined q is = by (has c.changed.collecting q) (has c.changed.frozen q) (has changed.frozen q) (ap (λ (s : KeySet). has s q) collecting ∙ has-union c.changed.collecting c.changed.frozen q) is
+      where
+        by : (col fro x : Bool) → has changed.collecting q ≡ (fro || col) → (col || fro) ≡ true → (has changed.collecting q || x) ≡ true
+        by true true x e h = ap (λ b. b || x) e
+        by true false x e h = ap (λ b. b || x) e
+        by false true x e h = ap (λ b. b || x) e
+        by false false x e h = absurd (true≢false (sym h))
+
     pub abandon_core : IsCore after_abandon
     abandon_core = record {
       world = abandon ok.world;
@@ -95,6 +107,7 @@ module _ {A : Type 0} where
       starts = active_is ∙ ap (map phases.at_rest) ok.starts ∙ starts_restarted c.calls.items ∙ sym (ap (map start_of) calls_are);
       numbers = ok.numbers;
       last = token_last c ok Rest ok.world.number log.records (number_here c ok log Rest log_is);
+      aside = aside_kept c.aside c.store store (either c.changed) (either changed) c.locks c.locks (subst (λ (l : Slots). KeepsSlots c.store l) (sym store_is) (slots_rested c.store)) rejoined (λ q is. is) ok.aside;
     }
 
     pub abandon_view : (v : CoreView) → view_of c ≡ v → view_of after_abandon ≡ abandoned v

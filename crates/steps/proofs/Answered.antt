@@ -26,7 +26,9 @@ use Rattle.record_store.specs.Stores.{Slots, records}
 use Rattle.std.specs.FinMap as fin
 use Rattle.image.specs.Merges.{table_of}
 use Rattle.record_store.specs.declared.limits.TheConstants as stored
-use Rattle.steps.specs.CoreFields.{IsCore, IsOpen, SameCall, call_at, underway, view_of}
+use Rattle.steps.proofs.SetAside.{aside_released}
+use Rattle.steps.specs.Asides.{AsideIn, after_release}
+use Rattle.steps.specs.CoreFields.{IsCore, IsOpen, SameCall, call_at, underway, view_of, either}
 use Rattle.steps.specs.CoreViews.{CoreView, IsSmall, Underway, OfOpen, Finishes, front_of, open_at, replaced, table_now}
 use Rattle.steps.specs.Backwards.{before}
 use Rattle.steps.specs.Edits.{KeepsSlots, all_kept, all_undone, first_noted, noted_of, versions_in}
@@ -42,6 +44,7 @@ use Rattle.steps.proofs.Standing.{good, phase_is, some_open}
 use Rattle.steps.proofs.Small.{beyond, now_as, small_more, small_now}
 use Rattle.steps.proofs.Events.{initial_good}
 use Rattle.steps.proofs.Whole.{runs_good}
+use Rattle.steps.specs.declared.reclaiming.Aside.{Aside}
 
 -- what is noted of a change tells that there is one
 kept_by : (start phase : Phase) (x : Option Cell) (y : Cell) (v : Option Version) → kept_key start phase (undo_of x y) v ≡ kept_key start phase x v
@@ -145,15 +148,15 @@ module _ {A : Type 0} (c : Inside A) (ok : IsCore c) (s : ℕ) (call : OpenCall 
   noted_as : (q : Bytes) → first_noted (map noted_of call.notes.items) q ≡ undo_of (change_at opened.0.machine.changes q) (value_at (now ok.world) q)
   noted_as q = sym (opened.2.notes q) ∙ ((good c ok).machines s opened.0 opened.1).undo q
 
-  abbrev after_answer : Log → Slots → Locks → ChangedSets → Vec (Option (OpenCall A)) A → Starts → Vec (Option ℕ) A → Inside A
-  after_answer log store locks changed calls active last = record c { log = log; store = store; locks = locks; changed = changed; calls = calls; active = active; last = last }
+  abbrev after_answer : Log → Slots → Locks → ChangedSets → Vec (Option (OpenCall A)) A → Starts → Vec (Option ℕ) A → Aside → Inside A
+  after_answer log store locks changed calls active last aside = record c { log = log; store = store; locks = locks; changed = changed; calls = calls; active = active; last = last; aside = aside }
 
-  module _ (log : Log) (store : Slots) (locks : Locks) (changed : ChangedSets) (calls : Vec (Option (OpenCall A)) A) (active : Starts) (last : Vec (Option ℕ) A)
+  module _ (log : Log) (store : Slots) (locks : Locks) (changed : ChangedSets) (calls : Vec (Option (OpenCall A)) A) (active : Starts) (last : Vec (Option ℕ) A) (aside : Aside)
       (o : ℕ) (outcome : o ≡ call.machine.progress.outcome) (ends : is_nil call.machine.progress.rest ≡ true)
       (log_is : log.records ≡ c.log.records ++ record_made o ∷ []) (calls_are : calls.items ≡ slice_set c.calls.items s None)
       (versions : (q : Bytes) → versions_in store q ≡ cond (o == COMMITTED) (all_kept call.start c.phase (map noted_of call.notes.items) (versions_in c.store) q) (all_undone (map noted_of call.notes.items) (versions_in c.store) q))
       (collecting : (q : Bytes) → has changed.collecting q ≡ cond (o == COMMITTED) (is_some (first_noted (map noted_of call.notes.items) q) || has c.changed.collecting q) (has c.changed.collecting q))
-      (frozen : changed.frozen ≡ c.changed.frozen) (locks_are : locks ≡ without_locks c.locks s) (starts : active ≡ slice_set c.active s None) (last_is : last.items ≡ slice_set c.last.items s (Some call.number)) (most : records store ≤ stored.RECORDS) (keys : KeepsSlots c.store store) where
+      (frozen : changed.frozen ≡ c.changed.frozen) (locks_are : locks ≡ without_locks c.locks s) (starts : active ≡ slice_set c.active s None) (last_is : last.items ≡ slice_set c.last.items s (Some call.number)) (most : records store ≤ stored.RECORDS) (keys : KeepsSlots c.store store) (aside_is : aside ≡ after_release c.aside) where
     ended_here : has_ended opened.0.machine ≡ true
     ended_here = ap (λ (p : Progress). is_nil p.rest) opened.2.progress ∙ ends
 
@@ -187,7 +190,19 @@ module _ {A : Type 0} (c : Inside A) (ok : IsCore c) (s : ℕ) (call : OpenCall 
     aborts_here : (o == COMMITTED) ≡ false → Goes ok.world (abort ok.world s opened.0)
     aborts_here not_so = Aborts s opened.0 opened.1 ended_here (ap (λ n. n == 0) (outcome_here ∙ sym outcome) ∙ not_so)
 
-    committed_core : (o == COMMITTED) ≡ true → IsCore (after_answer log store locks changed calls active last)
+    -- what was collected is
+    collected_still : (q : Bytes) → either c.changed q ≡ true → either changed q ≡ true
+    collected_still q is = by (o == COMMITTED) (is_some (first_noted (map noted_of call.notes.items) q)) (has c.changed.collecting q) (has c.changed.frozen q) (has changed.collecting q) (has changed.frozen q) (collecting q) (ap (λ f. has f q) frozen) is
+      where
+        by : (so new col fro x y : Bool) → x ≡ cond so (new || col) col → y ≡ fro → (col || fro) ≡ true → (x || y) ≡ true
+        by true true col fro x y e f h = ap (λ b. b || y) e
+        by true false col fro x y e f h = ap (λ b. b || y) e ∙ ap (λ b. col || b) f ∙ h
+        by false new col fro x y e f h = ap (λ b. b || y) e ∙ ap (λ b. col || b) f ∙ h
+
+    still_aside : AsideIn aside store (either changed) locks
+    still_aside = subst (λ a. AsideIn a store (either changed) locks) (sym aside_is) (aside_released c.aside c.store store (either c.changed) (either changed) c.locks locks keys collected_still ok.aside)
+
+    committed_core : (o == COMMITTED) ≡ true → IsCore (after_answer log store locks changed calls active last aside)
     committed_core so = record {
       world = commit ok.world s opened.0;
       run = more ok.run (commits_here so);
@@ -215,9 +230,10 @@ module _ {A : Type 0} (c : Inside A) (ok : IsCore c) (s : ℕ) (call : OpenCall 
       starts = closed_starts c ok s calls.items active calls_are starts;
       numbers = ap length last_is ∙ length-set c.last.items s _ ∙ ok.numbers;
       last = longer_last o log.records last.items log_is last_is;
+      aside = still_aside;
     }
 
-    aborted_core : (o == COMMITTED) ≡ false → IsCore (after_answer log store locks changed calls active last)
+    aborted_core : (o == COMMITTED) ≡ false → IsCore (after_answer log store locks changed calls active last aside)
     aborted_core not_so = record {
       world = abort ok.world s opened.0;
       run = more ok.run (aborts_here not_so);
@@ -242,20 +258,21 @@ module _ {A : Type 0} (c : Inside A) (ok : IsCore c) (s : ℕ) (call : OpenCall 
       starts = closed_starts c ok s calls.items active calls_are starts;
       numbers = ap length last_is ∙ length-set c.last.items s _ ∙ ok.numbers;
       last = longer_last o log.records last.items log_is last_is;
+      aside = still_aside;
     }
 
-    pub finish_core : IsCore (after_answer log store locks changed calls active last)
+    pub finish_core : IsCore (after_answer log store locks changed calls active last aside)
     finish_core = by (o == COMMITTED) refl
       where
-        by : (b : Bool) → (o == COMMITTED) ≡ b → IsCore (after_answer log store locks changed calls active last)
+        by : (b : Bool) → (o == COMMITTED) ≡ b → IsCore (after_answer log store locks changed calls active last aside)
         by true e = committed_core e
         by false e = aborted_core e
 
-    pub finish_view : length store ≡ length c.store → (v : CoreView) → view_of c ≡ v → OfOpen v s (Finishes v (view_of (after_answer log store locks changed calls active last)) s)
+    pub finish_view : length store ≡ length c.store → (v : CoreView) → view_of c ≡ v → OfOpen v s (Finishes v (view_of (after_answer log store locks changed calls active last aside)) s)
     finish_view slots v same u there =
-        let which : underway call ≡ u = is_under c ok s call is calls store locks active u (ap (λ (w : CoreView). open_at w s) same ∙ there) in
-        subst (λ (w : CoreView). Finishes w (view_of (after_answer log store locks changed calls active last)) s u) same
-        (subst (λ (x : Underway). Finishes (view_of c) (view_of (after_answer log store locks changed calls active last)) s x) which
+        let which : underway call ≡ u = is_under c ok s call is calls store locks active aside u (ap (λ (w : CoreView). open_at w s) same ∙ there) in
+        subst (λ (w : CoreView). Finishes w (view_of (after_answer log store locks changed calls active last aside)) s u) same
+        (subst (λ (x : Underway). Finishes (view_of c) (view_of (after_answer log store locks changed calls active last aside)) s x) which
         (record {
           same = record { catalog = refl; opening = refl; checkpoint = refl; calls = ap (map (option_map underway)) calls_are ∙ map-set (option_map underway) c.calls.items s None };
           log = log_is ∙ ap (λ (n : ℕ). c.log.records ++ Call s call.number call.procedure call.machine.args n call.machine.progress.replies ∷ []) outcome
@@ -264,6 +281,6 @@ module _ {A : Type 0} (c : Inside A) (ok : IsCore c) (s : ℕ) (call : OpenCall 
           versions = λ q.
               versions q
               ∙ ap (λ n. cond (n == COMMITTED) (all_kept call.start c.phase (map noted_of call.notes.items) (versions_in c.store) q) (all_undone (map noted_of call.notes.items) (versions_in c.store) q)) (outcome ∙ ap (λ (p : Progress). p.outcome) progress_here)
-              ∙ ap (λ x. cond ((front_of (view_of c) (underway call)).outcome == COMMITTED) (kept_key call.start c.phase x (versions_in c.store q)) (undone_key x (versions_in c.store q))) (notes_are c ok s call is calls store locks active q)
+              ∙ ap (λ x. cond ((front_of (view_of c) (underway call)).outcome == COMMITTED) (kept_key call.start c.phase x (versions_in c.store q)) (undone_key x (versions_in c.store q))) (notes_are c ok s call is calls store locks active aside q)
               ∙ ap (λ p. cond ((front_of (view_of c) (underway call)).outcome == COMMITTED) (kept_key call.start p (replaced (view_of c) (underway call) q) (versions_in c.store q)) (undone_key (replaced (view_of c) (underway call) q) (versions_in c.store q))) (phase_is c ok);
         }))

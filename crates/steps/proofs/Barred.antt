@@ -31,7 +31,7 @@ pub record Found (p : Underway → Bool) (l : List (Option Underway)) : Type 0 w
 further : (p : Underway → Bool) (x : Option Underway) (l : List (Option Underway)) → Found p l → Found p (x ∷ l)
 further p x l f = record { at = suc f.at; call = f.call; is = f.is; holds = f.holds }
 
-any_found : (p : Underway → Bool) (l : List (Option Underway)) → any_open p l ≡ true → Found p l
+pub any_found : (p : Underway → Bool) (l : List (Option Underway)) → any_open p l ≡ true → Found p l
 any_found p [] e = absurd (true≢false (sym e))
 any_found p (None ∷ l) e = further p None l (any_found p l e)
 any_found p (Some d ∷ l) e = by (p d) refl e (any_found p l)
@@ -74,7 +74,7 @@ reads_excluded true r h e is x = absurd (true≢false e)
 reads_excluded false true h e is x = let one : Shared ≡ h = cc in subst (λ m. Excludes Shared m) (sym one) x
 reads_excluded false false h e is x = none_some is
 
-writes_excluded : (w r : Bool) (h : Mode) → (r || w) ≡ false → mode_by w r ≡ Some h → ⊥
+pub writes_excluded : (w r : Bool) (h : Mode) → (r || w) ≡ false → mode_by w r ≡ Some h → ⊥
 writes_excluded true r h e is = absurd (true≢false (neither_of r true e).1)
 writes_excluded false true h e is = absurd (true≢false e)
 writes_excluded false false h e is = none_some is
@@ -93,10 +93,10 @@ module _ {A : Type 0} (c : Inside A) (ok : IsCore c) where
       by (Some k) f e = let one : underway k ≡ d = cc in record { call = k; is = f; same = one }
 
   -- a lock tells what its session's call has touched
-  held_at : (t : ℕ) (k : OpenCall A) → call_at c t ≡ Some k → (q : Bytes) → mode_of c.locks t q ≡ mode_by ((front_of (view_of c) (underway k)).writes q) ((front_of (view_of c) (underway k)).reads q)
+  pub held_at : (t : ℕ) (k : OpenCall A) → call_at c t ≡ Some k → (q : Bytes) → mode_of c.locks t q ≡ mode_by ((front_of (view_of c) (underway k)).writes q) ((front_of (view_of c) (underway k)).reads q)
   held_at t k is q =
       let o = some_open c ok t k is in
-      ok.stands.locks t q ∙ ap (λ x. held x q) o.1 ∙ ap (λ (m : Front). mode_by (m.writes q) (m.reads q)) (machine_is c ok t k is c.calls c.store c.locks c.active)
+      ok.stands.locks t q ∙ ap (λ x. held x q) o.1 ∙ ap (λ (m : Front). mode_by (m.writes q) (m.reads q)) (machine_is c ok t k is c.calls c.store c.locks c.active c.aside)
 
   write_held : (t : ℕ) (k : OpenCall A) → call_at c t ≡ Some k → (q : Bytes) (w : Bool) → (front_of (view_of c) (underway k)).writes q ≡ w → w ≡ true → mode_of c.locks t q ≡ Some Exclusive
   write_held t k is q w e f = held_at t k is q ∙ ap (λ b. mode_by b ((front_of (view_of c) (underway k)).reads q)) (e ∙ f)
@@ -108,7 +108,7 @@ module _ {A : Type 0} (c : Inside A) (ok : IsCore c) where
   touched_by s t q ne k is false true f h e = (t, Shared, ne, held_at t k is q ∙ ap (λ b. mode_by b ((front_of (view_of c) (underway k)).reads q)) f ∙ ap (mode_by false) h, tt)
   touched_by s t q ne k is false false f h e = absurd (true≢false (sym e ∙ ap (λ b. b || (front_of (view_of c) (underway k)).writes q) h ∙ f))
 
-  excluded_by : (s t : ℕ) (n : Touch) (d : Underway) → t ≢ s → open_at (view_of c) t ≡ Some d → bars (view_of c) n d ≡ true → IsExcluded c.locks s n
+  pub excluded_by : (s t : ℕ) (n : Touch) (d : Underway) → t ≢ s → open_at (view_of c) t ≡ Some d → bars (view_of c) n d ≡ true → IsExcluded c.locks s n
   excluded_by s t Nothing d ne is e = absurd (true≢false (sym e))
   excluded_by s t (Reads q) d ne is e =
       let k = kept_at t d is in
@@ -125,7 +125,7 @@ module _ {A : Type 0} (c : Inside A) (ok : IsCore c) where
       excluded_by s found.at n found.call other.0 other.1 found.holds
 
   -- a lock on a key is of an open call
-  holder : (t : ℕ) (q : Bytes) (h : Mode) → mode_of c.locks t q ≡ Some h → (k : OpenCall A) × (call_at c t ≡ Some k)
+  pub holder : (t : ℕ) (q : Bytes) (h : Mode) → mode_of c.locks t q ≡ Some h → (k : OpenCall A) × (call_at c t ≡ Some k)
   holder t q h e = by (call_at c t) refl
     where
       by : (x : Option (OpenCall A)) → call_at c t ≡ x → (k : OpenCall A) × (call_at c t ≡ Some k)

@@ -16,9 +16,11 @@ use Rattle.image.specs.declared.images.Kind.{Kind}
 use Rattle.image.specs.declared.images.Kind.TheVariants.{Full, Partial}
 use Rattle.record_store.specs.ChangedSets.{has}
 use Rattle.record_store.specs.Stores.{IsOnce, Slots, key_at}
+use Rattle.steps.proofs.SetAside.{aside_kept}
+use Rattle.steps.specs.Asides.{aside_at}
 use Rattle.steps.specs.Backwards.{at, before}
 use Rattle.steps.specs.Checkpointing.{AdvancesTo, CapturesAs, EndsAt, VisitsNext, visited}
-use Rattle.steps.specs.CoreFields.{IsCore, view_of}
+use Rattle.steps.specs.CoreFields.{IsCore, view_of, either}
 use Rattle.steps.specs.CoreViews.{CoreView}
 use Rattle.steps.specs.Edits.{KeepsSlots, given_at, given_of, kept_of, versions_in}
 use Rattle.steps.specs.Good.{Scan, Scans, is_cutting}
@@ -100,6 +102,7 @@ module _ {A : Type 0} (c : Inside A) (ok : IsCore c) where
       starts = ok.starts;
       numbers = ok.numbers;
       last = token_last c ok Capture ok.world.number log.records (number_here c ok log Capture log_is);
+      aside = ok.aside;
     }
 
     ends_at : (kind : Kind) → bound ≡ places kind c.store c.changed.frozen → EndsAt kind (view_of c) bound
@@ -125,6 +128,7 @@ module _ {A : Type 0} (c : Inside A) (ok : IsCore c) (store : Slots) (kept : Vec
     pub key_is : key ≡ spot c.checkpoint.cursor
     pub once : IsSome key → IsOnce c.store
     pub keys : (slot : ℕ) → key_at store slot ≡ key_at c.store slot
+    pub aside : (slot : ℕ) → aside_at store slot ≡ aside_at c.store slot
     pub versions : (q : Bytes) → versions_in store q ≡ visited key q (versions_in c.store q)
     pub kept_is : kept.items ≡ c.checkpoint.captured.items ++ kept_of c.checkpoint.kind (given_of (versions_in c.store) key)
 
@@ -136,7 +140,7 @@ module _ {A : Type 0} (c : Inside A) (ok : IsCore c) (store : Slots) (kept : Vec
     ]
 
     keeps_slots : KeepsSlots c.store store
-    keeps_slots slot q at = is.keys slot ∙ at
+    keeps_slots = record { keys = λ slot q at. is.keys slot ∙ at; aside = λ slot so. sym (is.aside slot) ∙ so }
 
     -- the core, by the machine's state
     core_as : (vs : Versions) (given : Changes) (seen : Bytes → Bool) → Runs (initial c.catalog (table_of c.opening)) (record ok.world { versions = vs; given = given; visited = seen }) → ((q : Bytes) → vs q ≡ versions_in store q) → IsScan (record c.checkpoint { captured = kept; cursor = c.checkpoint.cursor + 1 }) spot seen ok.world.bound given → IsCore after_capture
@@ -172,6 +176,7 @@ module _ {A : Type 0} (c : Inside A) (ok : IsCore c) (store : Slots) (kept : Vec
       starts = ok.starts;
       numbers = ok.numbers;
       last = ok.last;
+      aside = aside_kept c.aside c.store store (either c.changed) (either c.changed) c.locks c.locks keeps_slots (λ q e. e) (λ q e. e) ok.aside;
     }
 
     -- where no key stands, nothing is visited
@@ -313,6 +318,7 @@ module _ {A : Type 0} where
       starts = ok.starts;
       numbers = ok.numbers;
       last = ok.last;
+      aside = ok.aside;
     }
 
     pub roomy_scan_view : (v : CoreView) → view_of c ≡ v → (store : Slots) → store ≡ c.store → view_of (with_room store) ≡ v

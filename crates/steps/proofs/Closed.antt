@@ -10,7 +10,9 @@ use Rattle.commitlog.specs.Histories.{code_of}
 use Rattle.locktable.specs.Locks.{Locks, mode_of, without_locks}
 use Rattle.locktable.proofs.Changing.{releases_one_session}
 use Rattle.record_store.specs.Stores.{Slots}
-use Rattle.steps.specs.CoreFields.{IsCore, IsOpen, SameCall, call_at, held, start_of, underway, view_of}
+use Rattle.steps.proofs.SetAside.{aside_released}
+use Rattle.steps.specs.Asides.{AsideIn, after_release}
+use Rattle.steps.specs.CoreFields.{IsCore, IsOpen, SameCall, call_at, held, start_of, underway, view_of, either}
 use Rattle.steps.specs.CoreViews.{CoreView, Underway, GivesUp, front_of, table_now, open_at, replaced}
 use Rattle.steps.specs.Backwards.{before}
 use Rattle.steps.specs.Edits.{KeepsSlots, all_undone, first_noted, noted_of, versions_in}
@@ -21,6 +23,7 @@ use Rattle.steps.specs.declared.cores.Core.TheInside.{Inside}
 use Rattle.steps.proofs.Refused.{shown_at}
 use Rattle.steps.proofs.Slots.{tracked_on}
 use Rattle.steps.proofs.Standing.{good, now_is, some_open}
+use Rattle.steps.specs.declared.reclaiming.Aside.{Aside}
 
 within_list : {X : Type 0} (l : List (Option X)) (s : ℕ) (k : X) → slice_index_or l s None ≡ Some k → s < length l
 within_list [] s k e = absurd (cc)
@@ -59,15 +62,15 @@ module _ {A : Type 0} (c : Inside A) (ok : IsCore c) (s : ℕ) where
   closed_starts calls active e f = f ∙ ap (λ l. slice_set l s None) ok.starts ∙ sym (map-set start_of c.calls.items s None) ∙ ap (map start_of) (sym e)
 
   -- the core after a call was given up
-  abbrev pub gave_up : Vec (Option (OpenCall A)) A → Slots → Locks → Starts → Inside A
-  gave_up calls store locks active = record c { calls = calls; store = store; locks = locks; active = active }
+  abbrev pub gave_up : Vec (Option (OpenCall A)) A → Slots → Locks → Starts → Aside → Inside A
+  gave_up calls store locks active aside = record c { calls = calls; store = store; locks = locks; active = active; aside = aside }
 
-  module _ (call : OpenCall A) (is : call_at c s ≡ Some call) (calls : Vec (Option (OpenCall A)) A) (store : Slots) (locks : Locks) (active : Starts) where
+  module _ (call : OpenCall A) (is : call_at c s ≡ Some call) (calls : Vec (Option (OpenCall A)) A) (store : Slots) (locks : Locks) (active : Starts) (aside : Aside) where
     abbrev opened : (o : Open) × (ok.world.calls s ≡ Some o) × IsOpen call o
     opened = some_open c ok s call is
 
-    pub give_up_core : calls.items ≡ slice_set c.calls.items s None → ((q : Bytes) → versions_in store q ≡ all_undone (map noted_of call.notes.items) (versions_in c.store) q) → KeepsSlots c.store store → locks ≡ without_locks c.locks s → active ≡ slice_set c.active s None → IsCore (gave_up calls store locks active)
-    give_up_core e versions keys f h = record {
+    pub give_up_core : calls.items ≡ slice_set c.calls.items s None → ((q : Bytes) → versions_in store q ≡ all_undone (map noted_of call.notes.items) (versions_in c.store) q) → KeepsSlots c.store store → locks ≡ without_locks c.locks s → active ≡ slice_set c.active s None → aside ≡ after_release c.aside → IsCore (gave_up calls store locks active aside)
+    give_up_core e versions keys f h k = record {
       world = give_up ok.world s opened.0;
       run = more ok.run (Gives_up s opened.0 opened.1);
       stands = record {
@@ -91,6 +94,7 @@ module _ {A : Type 0} (c : Inside A) (ok : IsCore c) (s : ℕ) where
       starts = closed_starts calls.items active e h;
       numbers = ok.numbers;
       last = ok.last;
+      aside = subst (λ a. AsideIn a store (either c.changed) locks) (sym k) (aside_released c.aside c.store store (either c.changed) (either c.changed) c.locks locks keys (λ q is. is) ok.aside);
     }
 
     -- the machine of the session's call, as its run alone
@@ -115,9 +119,9 @@ module _ {A : Type 0} (c : Inside A) (ok : IsCore c) (s : ℕ) where
     pub is_under : (u : Underway) → open_at (view_of c) s ≡ Some u → underway call ≡ u
     is_under u e = let there : Some (underway call) ≡ Some u = sym (shown_at c s ∙ ap (option_map underway) is) ∙ e in cc
 
-    pub give_up_view : (v : CoreView) → view_of c ≡ v → calls.items ≡ slice_set c.calls.items s None → ((q : Bytes) → versions_in store q ≡ all_undone (map noted_of call.notes.items) (versions_in c.store) q) → length store ≡ length c.store → GivesUp v (view_of (gave_up calls store locks active)) s
+    pub give_up_view : (v : CoreView) → view_of c ≡ v → calls.items ≡ slice_set c.calls.items s None → ((q : Bytes) → versions_in store q ≡ all_undone (map noted_of call.notes.items) (versions_in c.store) q) → length store ≡ length c.store → GivesUp v (view_of (gave_up calls store locks active aside)) s
     give_up_view v same e versions slots =
-        subst (λ (w : CoreView). GivesUp w (view_of (gave_up calls store locks active)) s) same
+        subst (λ (w : CoreView). GivesUp w (view_of (gave_up calls store locks active aside)) s) same
         (record {
           same = record { catalog = refl; opening = refl; checkpoint = refl; calls = ap (map (option_map underway)) e ∙ map-set (option_map underway) c.calls.items s None };
           log = refl;

@@ -51,6 +51,7 @@ use Rattle.steps.proofs.Scanning.{recorded_at}
 use Rattle.steps.proofs.Small.{at_most_one, same_is, version_of-other, version_of-vacant, version_there}
 use Rattle.steps.proofs.Standing.{good}
 use Rattle.steps.proofs.Whole.{runs_good}
+use Rattle.steps.specs.declared.reclaiming.Aside.TheVariants.{Unknown}
 
 -- THE ENTRIES, EACH OF A KEY THAT HAS A RECORD
 
@@ -232,7 +233,7 @@ module _ {A : Type 0} (c : Inside A) (ok : IsCore c) (phase_is : c.phase ≡ Cap
 
   module _ (log : Log) (changed : ChangedSets) (empty : Vec (Bytes × Cell) A) (i : taken.Image) (scanned : nat_lt c.checkpoint.cursor c.checkpoint.bound ≡ false) (log_is : log.records ≡ c.log.records ++ Token Complete c.checkpoint.number ∷ []) (changed_is : changed ≡ record c.changed { frozen = no_keys }) (i_is : i ≡ made) where
     abbrev after_complete : Inside A
-    after_complete = record c { log = log; changed = changed; phase = Complete; checkpoint = record c.checkpoint { finished = c.checkpoint.number; captured = empty; waiting = Some i } }
+    after_complete = record c { log = log; changed = changed; phase = Complete; checkpoint = record c.checkpoint { finished = c.checkpoint.number; captured = empty; waiting = Some i }; aside = Unknown }
 
     all_visited : (q : Bytes) → w.bound q ≡ true → w.visited q ≡ true
     all_visited q wanted =
@@ -270,6 +271,7 @@ module _ {A : Type 0} (c : Inside A) (ok : IsCore c) (phase_is : c.phase ≡ Cap
       starts = ok.starts;
       numbers = ok.numbers;
       last = token_last c ok Complete w.number log.records (number_here c ok log Complete log_is);
+      aside = λ slot key there so. tt;
     }
 
     pub complete_view : (v : CoreView) → view_of c ≡ v → AdvancesTo Complete v (view_of after_complete)

@@ -3,6 +3,7 @@ use Rattle.std.proofs.Common.{◌≡◌, ℕ, zero, suc, Bool, true, false, is_s
 use Rattle.std.specs.declared.result.Result.{Result}
 use Rattle.std.proofs.lemmas.List.{append-nil, append_assoc, map-append, map-set, set-get_or}
 use Rattle.std.proofs.Math.ListN.{get_or-map}
+use Rattle.procedure.specs.Bytes.{Bytes}
 use Rattle.procedure.specs.declared.limits.TheConstants.{SESSIONS}
 use Rattle.phase.specs.declared.phases.Phase.{Phase}
 use Rattle.phase.specs.declared.phases.Phase.TheVariants.{Rest, Prepare, Resolve, Capture, Complete}
@@ -17,7 +18,7 @@ use Rattle.steps.specs.Headline.{Begun, calls_of}
 use Rattle.steps.specs.Refusals.{finish_refusal, step_refusal, unfinished, unstepped}
 use Rattle.steps.specs.Checkpointing.{AdvancesTo, CapturesAs, restarted}
 use Rattle.steps.specs.CutImages.{AllTaken, IsTaken}
-use Rattle.steps.specs.Schedules.{AbandonsAs, AdvancesAs, BeginsAs, FinishesAs, GivesUpAs, Handles, HandlesAll, StartsAs, StepsAs, TakesImage, VisitsAs, answer_to, answered_call, answered_calls, begun_by, image_in, images_in, is_accepted}
+use Rattle.steps.specs.Schedules.{AbandonsAs, AdvancesAs, BeginsAs, FinishesAs, GivesUpAs, Handles, HandlesAll, ReclaimsAs, StartsAs, StepsAs, TakesImage, VisitsAs, answer_to, answered_call, answered_calls, begun_by, image_in, images_in, is_accepted}
 use Rattle.steps.specs.declared.captures.Captured.{Captured}
 use Rattle.steps.specs.declared.captures.Captured.TheVariants.{Slot, Done}
 use Rattle.steps.specs.declared.errors.FinishError.{FinishError}
@@ -194,6 +195,13 @@ take_handled B old new i h = by (is_some i)
     by true = stays old new (begun_in old) (ap (λ (v : CoreView). v.catalog) h.taken) (ap (λ (v : CoreView). v.opening) h.taken) (ap (λ (v : CoreView). v.log) h.taken) (ap begun_in h.taken)
     by false = stays old new (begun_in old) (ap (λ (v : CoreView). v.catalog) h.taken) (ap (λ (v : CoreView). v.opening) h.taken) (ap (λ (v : CoreView). v.log) h.taken) (ap begun_in h.taken)
 
+reclaim_handled : (B : Type 0) (old new : CoreView) (gone : Option Bytes) → ReclaimsAs old new gone → Grows old new (begun_by {A = B} event.Reclaim (is_some gone) (begun_in old)) []
+reclaim_handled B old new gone h = by (is_some gone)
+  where
+    by : (b : Bool) → Grows old new (begun_by {A = B} event.Reclaim b (begun_in old)) []
+    by true = stays old new (begun_in old) (ap (λ (v : CoreView). v.catalog) h.reclaimed.rest) (ap (λ (v : CoreView). v.opening) h.reclaimed.rest) (ap (λ (v : CoreView). v.log) h.reclaimed.rest) (ap begun_in h.reclaimed.rest)
+    by false = stays old new (begun_in old) (ap (λ (v : CoreView). v.catalog) h.reclaimed.rest) (ap (λ (v : CoreView). v.opening) h.reclaimed.rest) (ap (λ (v : CoreView). v.log) h.reclaimed.rest) (ap begun_in h.reclaimed.rest)
+
 -- THE IMAGES OF A VIEW
 
 abbrev Taken : CoreView → List Image → Type 0
@@ -249,6 +257,7 @@ module _ {A : Type 0} where
   handled event.Advance old new r h = subst (λ (x : Reply A). Grows old new (begun_by {A = A} event.Advance (is_accepted x) (begun_in old)) []) (sym h.1) (advance_handled A old new h.0 h.2)
   handled event.Capture old new r h = subst (λ (x : Reply A). Grows old new (begun_by {A = A} event.Capture (is_accepted x) (begun_in old)) []) (sym h.1) (capture_handled A old new h.0 h.2)
   handled event.TakeImage old new r h = subst (λ (x : Reply A). Grows old new (begun_by {A = A} event.TakeImage (is_accepted x) (begun_in old)) []) (sym h.1) (take_handled A old new h.0 h.2)
+  handled event.Reclaim old new r h = subst (λ (x : Reply A). Grows old new (begun_by {A = A} event.Reclaim (is_accepted x) (begun_in old)) []) (sym h.1) (reclaim_handled A old new h.0 h.2)
   handled event.Abandon old new r h = subst (λ (x : Reply A). Grows old new (begun_by {A = A} event.Abandon (is_accepted x) (begun_in old)) []) (sym h.1) (abandon_handled A old new h.0 h.2)
 
   -- ALL OF THEM
@@ -284,6 +293,7 @@ module _ {A : Type 0} where
       by : (i : Option Image) → IfSome i (λ i. IsTaken old.catalog (table_of old.opening) old.log i) → Taken old (image_in {A = A} (reply.TakeImage i))
       by None x = tt
       by (Some i) x = (x, tt)
+  taken_here event.Reclaim old new r h = subst (λ (x : Reply A). Taken old (image_in x)) (sym h.1) tt
   taken_here event.Abandon old new r h = subst (λ (x : Reply A). Taken old (image_in x)) (sym h.1) tt
 
   pub images_taken : (es : List (Event A)) (rs : List (Reply A)) (old new : CoreView) → HandlesAll es old new rs → Taken new (images_in rs)

@@ -9,9 +9,9 @@ use Rattle.procedure.specs.Bytes.{Bytes, Cell, same}
 use Rattle.procedure.proofs.Base.{keys, same_pointwise, same_refl}
 use Rattle.phase.specs.declared.phases.Phase.{Phase}
 use Rattle.phase.specs.declared.phases.Phase.TheVariants.{Rest, Prepare, Resolve, Capture, Complete}
-use Rattle.record_store.specs.Stores.{Record, Slots, IsOnce, Finds, changed, record_at, live_at, new_record, with_record, with_live, with_stable, with_copy, with_available}
+use Rattle.record_store.specs.Stores.{Record, Slots, IsOnce, Finds, changed, record_at, live_at, new_record, with_record, with_live, with_stable, with_copy, with_available, with_aside}
 use Rattle.record_store.specs.Versions as stored
-use Rattle.record_store.proofs.Versions.{version_of-changed, version_of-created, version_none, version_found, record_found, finds_record, once_created}
+use Rattle.record_store.proofs.Versions.{version_of-aside, version_of-changed, version_of-created, version_none, version_found, record_found, finds_record, once_created}
 use Rattle.record_store.proofs.Making.{at_with_here}
 use Rattle.record_store.specs.declared.records.Stable.TheVariants.{Empty}
 use Rattle.steps.specs.World.{Version, Versions, copied, copied_late, undone, undone_key, kept, kept_key, wrote, live_of, is_late}
@@ -86,6 +86,11 @@ versions_written phase start x slots i key q once finds =
     let found = found_in slots i key once finds in
     versions_edited (written start x) slots i key q once finds
     ∙ ap (λ (o : Option Version). cond (same q key) o (versions_in slots q)) (ap (option_map (written start x)) found.2 ∙ sym (ap (λ (o : Option Version). Some (wrote phase start o x)) found.2))
+
+-- who is set aside changes no version
+pub versions_aside : (aside : Bool) (slots : Slots) (i : ℕ) (q : Bytes) → versions_in (changed (with_aside aside) slots i) q ≡ versions_in slots q
+unfolding versions_in
+versions_aside aside slots i q = ap (option_map shown) (version_of-aside aside slots i q)
 
 -- a write to a key that has none
 versions_created : (slots : Slots) (i : ℕ) (key q : Bytes) (available : Bool) → record_at slots i ≡ None → Finds slots key None → versions_in (with_record slots i (new_record key available)) q ≡ cond (same q key) (Some (shown (stored.new_version available))) (versions_in slots q)

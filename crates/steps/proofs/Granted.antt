@@ -1,5 +1,5 @@
 -- The locks of an instruction: what a grant changes, and that it can be taken back.
-use Rattle.std.proofs.Common.{◌≡◌, ◌≢◌, ℕ, ◌<◌, ◌⊎◌, Bool, true, false, ◌||◌, Option, Some, None, length, inl, inr, refl, sym, ap, ◌∙◌, subst, length-set, true≢false}
+use Rattle.std.proofs.Common.{◌≡◌, ◌≢◌, IsSome, ℕ, ◌<◌, ◌⊎◌, Bool, true, false, ◌||◌, Option, Some, None, length, inl, inr, refl, sym, ap, ◌∙◌, subst, length-set, true≢false}
 use Rattle.std.proofs.lemmas.Bool.{cases_eq}
 use Rattle.procedure.specs.Bytes.{Bytes, same}
 use Rattle.procedure.specs.Needs.{Touch, Nothing, Reads, Writes}
@@ -108,3 +108,17 @@ pub other_locks : (locks : Locks) (s : ℕ) (n : Touch) → s < length locks →
 other_locks locks s Nothing lt t q ne = refl
 other_locks locks s (Reads k) lt t q ne = (changes_one_lock locks s k (Some (stronger (mode_of locks s k) Shared)) lt).1 t q (inl ne)
 other_locks locks s (Writes k) lt t q ne = (changes_one_lock locks s k (Some (stronger (mode_of locks s k) Exclusive)) lt).1 t q (inl ne)
+
+granted_lock : (locks : Locks) (s : ℕ) (k : Bytes) (m : Mode) → s < length locks → (t : ℕ) (q : Bytes) → IsSome (mode_of locks t q) → IsSome (mode_of (with_lock locks s k (Some m)) t q)
+granted_lock locks s k m lt t q is =
+    let changes = changes_one_lock locks s k (Some m) lt in
+    elim (which s t k q) [
+      | inl here ↦ subst (λ o. IsSome o) (sym (ap (λ i. mode_of (with_lock locks s k (Some m)) i q) here.0 ∙ ap (mode_of (with_lock locks s k (Some m)) s) here.1 ∙ changes.0)) refl
+      | inr differs ↦ subst (λ o. IsSome o) (sym (changes.1 t q differs)) is
+    ]
+
+-- whoever holds a key holds it still
+pub lock_stays : (locks : Locks) (s : ℕ) (n : Touch) → s < length locks → (t : ℕ) (q : Bytes) → IsSome (mode_of locks t q) → IsSome (mode_of (locked locks s n) t q)
+lock_stays locks s Nothing lt t q is = is
+lock_stays locks s (Reads k) lt t q is = granted_lock locks s k (stronger (mode_of locks s k) Shared) lt t q is
+lock_stays locks s (Writes k) lt t q is = granted_lock locks s k (stronger (mode_of locks s k) Exclusive) lt t q is

@@ -13,6 +13,7 @@ pub mod Cuts
 pub mod Promised
 pub mod Edited
 pub mod Slots
+pub mod SetAside
 pub mod Small
 pub mod Standing
 pub mod Refused
@@ -36,6 +37,9 @@ pub mod Opened
 pub mod Advanced
 pub mod Granted
 pub mod Barred
+pub mod Candidates
+pub mod Reclaimable
+pub mod Reclaimed
 pub mod Moved
 pub mod Driven
 pub mod CutImages

@@ -1,11 +1,13 @@
 -- A core after one instruction of a call.
-use Rattle.std.proofs.Common.{◌≡◌, ℕ, suc, ◌+◌, ◌<◌, ◌≤◌, arith, Bool, true, false, cond, not, ◌&&◌, List, Option, Some, None, Ok, Err, OnOk, OnErr, IfOk, Vec, map, option_map, length, slice_get, slice_set, slice_index_or, inl, inr, refl, sym, ap, ◌∙◌, subst, length-set, get_or-set_other}
+use Rattle.std.proofs.Common.{◌≡◌, ℕ, suc, ◌+◌, ◌<◌, ◌≤◌, arith, Bool, true, false, cond, not, ◌&&◌, List, Option, Some, None, Ok, Err, OnOk, OnErr, IfOk, Vec, map, option_map, length, slice_get, slice_set, slice_index_or, inl, inr, refl, sym, ap, ◌∙◌, subst, length-set, get_or-set_other, IsSome}
 use Rattle.std.specs.declared.result.Result.{Result}
 use Rattle.std.specs.Option.{option_or}
 use Rattle.std.proofs.lemmas.List.{get_or-set_same, map-set, set-get_or}
 use Rattle.std.proofs.Math.ListN.{get_or-map}
 use Rattle.std.proofs.lemmas.Bool.{cases_eq, eq-eqb, ne_eqb}
 use Rattle.std.specs.Prelude.{if◌then◌else◌}
+use Rattle.steps.proofs.SetAside.{aside_kept, locked_still}
+use Rattle.steps.specs.Asides.{IsLocked}
 use Rattle.steps.specs.declared.step.Stepped.{Stepped}
 use Rattle.steps.specs.declared.step.Stepped.TheVariants.{Ran, Ready}
 use Rattle.procedure.specs.Bytes.{Bytes}
@@ -21,7 +23,7 @@ use Rattle.locktable.specs.Locks.{Locks, mode_of}
 use Rattle.record_store.specs.Stores.{Slots}
 use Rattle.steps.specs.Advances.{Advances, SameOpen, becomes_in, lacks_place, seen_in, touch_in}
 use Rattle.steps.specs.Backwards.{before}
-use Rattle.steps.specs.CoreFields.{IsCore, IsOpen, SameCall, call_at, held, mode_by, start_of, underway, view_of}
+use Rattle.steps.specs.CoreFields.{IsCore, IsOpen, SameCall, call_at, held, mode_by, start_of, underway, view_of, either}
 use Rattle.steps.specs.CoreViews.{CoreView, OfOpen, Steps, Underway, becomes_next, front_of, is_barred, one_more, open_at, stepped_as, table_now, touch_next}
 use Rattle.steps.specs.Edits.{first_noted, noted_of, versions_in}
 use Rattle.steps.specs.Locked.{AnswersTo, IsExcluded, SameLocks, grant, locked}
@@ -36,7 +38,7 @@ use Rattle.steps.proofs.Barred.{barred_excluded, free_clear, unbarred_free}
 use Rattle.steps.proofs.Closed.{is_under, within}
 use Rattle.steps.proofs.Granted.{length_held_so, other_locks, own_locks}
 use Rattle.steps.proofs.Ready.{open_is, progress_is}
-use Rattle.steps.proofs.Slots.{tracked_on}
+use Rattle.steps.proofs.Slots.{tracked_on, slots_same}
 use Rattle.steps.proofs.Standing.{phase_is, some_open}
 
 -- the procedures of a core have few instructions
@@ -213,6 +215,7 @@ module _ {A : Type 0} (c : Inside A) (ok : IsCore c) (s : ℕ) (call : OpenCall 
       starts = starts_stay d same.begun.start calls.items calls_are;
       numbers = ok.numbers;
       last = ok.last;
+      aside = aside_kept c.aside c.store c.store (either c.changed) (either c.changed) c.locks locks (slots_same c.store c.store refl) (λ q is. is) (λ q is. (is.0, subst (λ o. IsSome o) (sym (locks_are is.0 q)) is.1)) ok.aside;
     }
 
     same_shown : underway d ≡ underway call
@@ -320,6 +323,7 @@ module _ {A : Type 0} (c : Inside A) (ok : IsCore c) (s : ℕ) (call : OpenCall 
       starts = starts_stay d advances.on.begun.start calls.items calls_are;
       numbers = ok.numbers;
       last = ok.last;
+      aside = aside_kept c.aside c.store store (either c.changed) (either c.changed) c.locks locks advances.on.keys (λ q is. is) (λ q is. subst (λ l. IsLocked l q) (sym locks_are) (locked_still c.locks s (touch_in call.machine) in_table q is)) ok.aside;
     }
 
     next_shown : underway d ≡ one_more u
@@ -332,7 +336,7 @@ module _ {A : Type 0} (c : Inside A) (ok : IsCore c) (s : ℕ) (call : OpenCall 
 
     pub step_view : (w : CoreView) → view_of c ≡ w → OfOpen w s (Steps w (view_of (with_step calls store locks)) s)
     step_view w same x there =
-        let which : u ≡ x = is_under c ok s call is calls store locks c.active x (ap (λ (w : CoreView). open_at w s) same ∙ there) in
+        let which : u ≡ x = is_under c ok s call is calls store locks c.active c.aside x (ap (λ (w : CoreView). open_at w s) same ∙ there) in
         subst (λ (w : CoreView). Steps w (view_of (with_step calls store locks)) s x) same
         (subst (λ (y : Underway). Steps v (view_of (with_step calls store locks)) s y) which
         (record {
@@ -348,7 +352,7 @@ module _ {A : Type 0} (c : Inside A) (ok : IsCore c) (s : ℕ) (call : OpenCall 
     -- whether the call has ended then
     pub ready_is : (w : CoreView) → view_of c ≡ w → OfOpen w s (λ x. (if is_nil d.machine.progress.rest then Ready else Ran) ≡ stepped_as (front_of w (one_more x)))
     ready_is w same x there =
-        let which : u ≡ x = is_under c ok s call is calls store locks c.active x (ap (λ (w : CoreView). open_at w s) same ∙ there) in
+        let which : u ≡ x = is_under c ok s call is calls store locks c.active c.aside x (ap (λ (w : CoreView). open_at w s) same ∙ there) in
         let now = progress_is (with_step calls store locks) step_core (view_of (with_step calls store locks)) refl s d (ap (λ l. slice_index_or l s None) calls_are ∙ at_this d) in
         ap (λ (p : Progress). if is_nil p.rest then Ready else Ran) (now ∙ ap (λ (y : Underway). (front_of v y).progress) (next_shown ∙ ap one_more which))
         ∙ ap (λ (w : CoreView). stepped_as (front_of w (one_more x))) same

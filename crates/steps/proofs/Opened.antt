@@ -25,7 +25,8 @@ use Rattle.record_store.specs.ChangedSets.{has, no_keys}
 use Rattle.std.specs.FinMap as fin
 use Rattle.std.proofs.lemmas.List.{length-replicate}
 use Rattle.std.proofs.lemmas.List.Elements.{recursion_from_All}
-use Rattle.steps.specs.CoreFields.{IsCore, SameCall, call_at, checkpoint_of, start_of, underway, view_of}
+use Rattle.steps.specs.Asides.{AsideIn}
+use Rattle.steps.specs.CoreFields.{IsCore, SameCall, call_at, checkpoint_of, start_of, underway, view_of, either}
 use Rattle.record_store.proofs.Versions.{version_of-new}
 use Rattle.record_store.specs.Stores.{records}
 use Rattle.record_store.specs.declared.limits.TheConstants.{RECORDS}
@@ -39,6 +40,7 @@ use Rattle.steps.specs.World.{Version, Versions, Runs, initial, opened, wrote}
 use Rattle.steps.specs.World as machine
 use Rattle.steps.specs.declared.calls.OpenCall.{OpenCall}
 use Rattle.steps.specs.declared.cores.Core.TheInside.{Inside}
+use Rattle.steps.specs.declared.reclaiming.Aside.TheVariants.{Unknown}
 
 -- the entries make the same of the same versions
 pub same_opened : (vs us : Versions) (es : List Entry) → ((q : Bytes) → vs q ≡ us q) → (q : Bytes) → opened_with vs es q ≡ opened_with us es q
@@ -148,7 +150,7 @@ none_held (suc n) (suc s) q = none_held n s q
 module _ {A : Type 0} (c : Inside A) (lawful : catalog_fault c.catalog ≡ None) (log : c.log.records ≡ []) (calls : c.calls.items ≡ replicate SESSIONS None) (last : c.last.items ≡ replicate SESSIONS None)
     (locks : c.locks ≡ replicate SESSIONS fin.empty) (active : c.active ≡ replicate SESSIONS None) (collecting : c.changed.collecting ≡ no_keys) (frozen : c.changed.frozen ≡ no_keys) (phase : c.phase ≡ Rest)
     (versions : (q : Bytes) → versions_in c.store q ≡ opened (value_at (table_of c.opening) q)) (most : records c.store ≤ RECORDS)
-    (checkpoint : checkpoint_of c.checkpoint ≡ no_checkpoint) (number : c.checkpoint.number ≡ 0) (finished : c.checkpoint.finished ≡ 0) where
+    (checkpoint : checkpoint_of c.checkpoint ≡ no_checkpoint) (number : c.checkpoint.number ≡ 0) (finished : c.checkpoint.finished ≡ 0) (aside : c.aside ≡ Unknown) where
   free : (s : ℕ) → SameCall (call_at c s) None
   free s = subst (λ (o : Option (OpenCall A)). SameCall o None) (sym (ap (λ (l : List (Option (OpenCall A))). slice_index_or l s None) calls ∙ none_kept SESSIONS s)) tt
 
@@ -188,6 +190,7 @@ module _ {A : Type 0} (c : Inside A) (lawful : catalog_fault c.catalog ≡ None)
     starts = active ∙ sym (ap (map (start_of {A = A})) calls ∙ map-replicate (start_of {A = A}) SESSIONS None);
     numbers = ap length last ∙ count_nothings ℕ SESSIONS;
     last = λ s lt. ap (λ l. slice_index_or l s None) last ∙ none_kept SESSIONS s ∙ ap (last_number s) (sym log);
+    aside = subst (λ a. AsideIn a c.store (either c.changed) c.locks) (sym aside) (λ slot key there so. tt);
   }
 
   pub opened_view : IsOpened c.catalog c.opening (view_of c)

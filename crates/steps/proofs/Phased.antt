@@ -1,5 +1,5 @@
 -- A core after its phase changed: into resolve, and to rest.
-use Rattle.std.proofs.Common.{◌≡◌, ℕ, false, cond, List, [], ◌∷◌, ◌++◌, Option, Some, None, is_some, map, option_map, length, refl, sym, ap, ◌∙◌, true≢false}
+use Rattle.std.proofs.Common.{◌≡◌, ℕ, false, cond, List, [], ◌∷◌, ◌++◌, Option, Some, None, is_some, map, option_map, length, refl, sym, ap, ◌∙◌, true≢false, Bool, true, ◌||◌, subst}
 use Rattle.std.proofs.lemmas.Bool.{eq-eqb}
 use Rattle.std.specs.FinMap as fin
 use Rattle.std.specs.Ordering.{nat_cmp}
@@ -13,17 +13,21 @@ use Rattle.record_store.proofs.Versions.{version_of-rested}
 use Rattle.record_store.specs.ChangedSets.{ChangedSets, KeySet, has, no_keys}
 use Rattle.record_store.specs.Stores.{Slots, at_rest}
 use Rattle.record_store.specs.Versions as stored
+use Rattle.steps.proofs.SetAside.{aside_kept}
+use Rattle.steps.proofs.Slots.{slots_same, slots_rested}
 use Rattle.steps.specs.Backwards.{before}
 use Rattle.steps.specs.Checkpointing.{entered, rested}
-use Rattle.steps.specs.CoreFields.{IsCore, view_of}
+use Rattle.steps.specs.CoreFields.{IsCore, view_of, either}
 use Rattle.steps.specs.CoreViews.{CoreView}
-use Rattle.steps.specs.Edits.{shown, versions_in}
+use Rattle.steps.specs.Edits.{shown, versions_in, KeepsSlots}
+use Rattle.steps.specs.Good.{Gathers, Sets, is_cutting}
 use Rattle.steps.specs.Refusals.{is_held}
 use Rattle.steps.specs.World.{Resolves, Rests, cleaned, more, resolve, rest}
 use Rattle.steps.specs.declared.cores.Core.TheInside.{Inside}
 use Rattle.steps.proofs.Entered.{number_is, token_last, token_log, token_small}
 use Rattle.steps.proofs.Forward.{length-reverse}
 use Rattle.steps.proofs.Leaving.{all_started}
+use Rattle.steps.proofs.Standing.{good}
 
 -- the records before the cut that is made now
 pub before_here : (n : ℕ) (h : List Record) → before n (Token Resolve n ∷ h) ≡ h
@@ -49,6 +53,21 @@ module _ {A : Type 0} (c : Inside A) (ok : IsCore c) (log : Log) where
   module _ (changed : ChangedSets) (place : ℕ) (phase_is : c.phase ≡ Prepare) (free : is_held Prepare (view_of c).calls ≡ false) (log_is : log.records ≡ c.log.records ++ Token Resolve c.checkpoint.number ∷ []) (collecting : changed.collecting ≡ no_keys) (frozen : changed.frozen ≡ c.changed.collecting) (place_is : place ≡ length c.log.records) where
     abbrev after_resolve : Inside A
     after_resolve = record c { log = log; changed = changed; phase = Resolve; checkpoint = record c.checkpoint { place = place } }
+
+    none_frozen : (q : Bytes) → has c.changed.frozen q ≡ false
+    none_frozen q =
+        let sets : Gathers ok.world.catalog ok.world.opening ok.world.log ok.world.finished ok.world.collecting ok.world.frozen =
+        subst (λ b. Sets b ok.world.catalog ok.world.opening ok.world.log ok.world.number ok.world.finished ok.world.collecting ok.world.frozen) (ap is_cutting (ok.stands.phase ∙ phase_is)) (good c ok).sets in
+        sym (ok.stands.frozen q) ∙ sets.frozen q
+
+    -- what was collected is frozen
+    now_frozen : (q : Bytes) → either c.changed q ≡ true → either changed q ≡ true
+    now_frozen q is = by (has c.changed.collecting q) (has c.changed.frozen q) (has changed.collecting q) (none_frozen q) (ap (λ (s : KeySet). has s q) frozen) is
+      where
+        by : (col fro x : Bool) → fro ≡ false → has changed.frozen q ≡ col → (col || fro) ≡ true → (x || has changed.frozen q) ≡ true
+        by true fro true e f h = refl
+        by true fro false e f h = f
+        by false fro x e f h = absurd (true≢false (sym h ∙ e))
 
     pub resolve_core : IsCore after_resolve
     resolve_core = record {
@@ -80,6 +99,7 @@ module _ {A : Type 0} (c : Inside A) (ok : IsCore c) (log : Log) where
       starts = ok.starts;
       numbers = ok.numbers;
       last = token_last c ok Resolve ok.world.number log.records (number_here Resolve log_is);
+      aside = aside_kept c.aside c.store c.store (either c.changed) (either changed) c.locks c.locks (slots_same c.store c.store refl) now_frozen (λ q is. is) ok.aside;
     }
 
     pub resolve_view : (v : CoreView) → view_of c ≡ v → view_of after_resolve ≡ entered v Resolve
@@ -128,6 +148,7 @@ module _ {A : Type 0} (c : Inside A) (ok : IsCore c) (log : Log) where
       starts = ok.starts;
       numbers = ok.numbers;
       last = token_last c ok Rest ok.world.number log.records (number_here Rest log_is);
+      aside = aside_kept c.aside c.store store (either c.changed) (either c.changed) c.locks c.locks (subst (λ (l : Slots). KeepsSlots c.store l) (sym store_is) (slots_rested c.store)) (λ q is. is) (λ q is. is) ok.aside;
     }
 
     pub rest_view : (v : CoreView) → view_of c ≡ v → view_of after_rest ≡ rested (entered v Rest)

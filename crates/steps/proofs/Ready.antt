@@ -1,5 +1,5 @@
 -- Whether a call has ended, by its machine as it is kept and by its run alone.
-use Rattle.std.proofs.Common.{◌≡◌, ℕ, Bool, true, false, not, cond, List, Some, None, option_map, refl, sym, ap, ◌∙◌, subst}
+use Rattle.std.proofs.Common.{◌≡◌, ℕ, Bool, true, false, not, cond, List, Some, None, option_map, refl, sym, ap, ◌∙◌, subst, ◌||◌}
 use Rattle.std.specs.Prelude.{◌==◌, length}
 use Rattle.std.specs.Option.{option_or}
 use Rattle.procedure.specs.Bytes.{Cell}
@@ -8,8 +8,9 @@ use Rattle.commitlog.specs.Histories.{last_number}
 use Rattle.commitlog.specs.Logs.{Log}
 use Rattle.record_store.specs.ChangedSets.{ChangedSets, has}
 use Rattle.commitlog.specs.declared.limits.TheConstants.{RECORDS}
+use Rattle.steps.proofs.SetAside.{aside_kept}
 use Rattle.steps.specs.Backwards.{before}
-use Rattle.steps.specs.CoreFields.{IsCore, call_at, underway, view_of}
+use Rattle.steps.specs.CoreFields.{IsCore, call_at, underway, view_of, either}
 use Rattle.image.specs.Merges.{table_of}
 use Rattle.steps.specs.CoreViews.{CoreView, IsSmall, Underway, OfOpen, front_of, open_at}
 use Rattle.steps.specs.Refusals.{unless, unfinished, finish_refusal}
@@ -43,7 +44,7 @@ module _ {A : Type 0} (c : Inside A) (ok : IsCore c) (v : CoreView) (same : view
   pub progress_is : (k : OpenCall A) → call_at c s ≡ Some k → k.machine.progress ≡ (front_of v (underway k)).progress
   progress_is k is =
       let opened = some_open c ok s k is in
-      sym opened.2.progress ∙ ap (λ (m : Front). m.progress) (machine_is c ok s k is c.calls c.store c.locks c.active)
+      sym opened.2.progress ∙ ap (λ (m : Front). m.progress) (machine_is c ok s k is c.calls c.store c.locks c.active c.aside)
       ∙ ap (λ (w : CoreView). (front_of w (underway k)).progress) same
 
   pub progress_of : (k : OpenCall A) → call_at c s ≡ Some k → (P : Progress → Type 0) → P k.machine.progress → OfOpen v s (λ u. P (front_of v u).progress)
@@ -118,6 +119,7 @@ module _ {A : Type 0} where
     starts = ok.starts;
     numbers = ok.numbers;
     last = λ s lt. ok.last s lt ∙ ap (last_number s) (sym e);
+    aside = aside_kept c.aside c.store c.store (either c.changed) (either changed) c.locks c.locks (slots_same c.store c.store refl) (λ q is. ap (λ k. has k q || has changed.frozen q) f ∙ ap (λ k. has c.changed.collecting q || has k q) h ∙ is) (λ q is. is) ok.aside;
   }
 
   pub roomy_view : (c : Inside A) (v : CoreView) → view_of c ≡ v → (log : Log) (changed : ChangedSets) → log.records ≡ c.log.records → view_of (record c { log = log; changed = changed }) ≡ v

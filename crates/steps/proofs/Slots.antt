@@ -1,5 +1,6 @@
 -- Edits of a store's records keep each record in its slot, and so the scan that goes by the slots.
-use Rattle.std.proofs.Common.{◌≡◌, ℕ, Bool, List, Option, Some, None, option_map, inl, inr, refl, sym, ap, ◌∙◌, get_or-set_other}
+use Rattle.std.proofs.Common.{◌≡◌, ℕ, Bool, List, Option, Some, None, option_map, inl, inr, refl, sym, ap, ◌∙◌, get_or-set_other, map, false, true, true≢false}
+use Rattle.std.proofs.Math.ListN.{get_or-map}
 use Rattle.std.proofs.lemmas.Bool.{cases_eq}
 use Rattle.procedure.specs.Bytes.{Bytes}
 use Rattle.procedure.specs.Table.{Changes}
@@ -10,26 +11,34 @@ use Rattle.image.specs.declared.images.Kind.TheVariants.{Full, Partial}
 use Rattle.record_store.proofs.Fields.{edited_here}
 use Rattle.record_store.proofs.Making.{at_with_other}
 use Rattle.record_store.specs.ChangedSets.{KeySet}
-use Rattle.record_store.specs.Stores.{Record, Slots, changed, key_at, record_at, with_record}
+use Rattle.record_store.specs.Stores.{Record, Slots, at_rest, changed, key_at, record_at, with_aside, with_record}
 use Rattle.record_store.specs.Versions.{KeepsKey}
+use Rattle.steps.specs.Asides.{aside_at, is_aside}
 use Rattle.steps.specs.Backwards.{Image}
 use Rattle.steps.specs.Edits.{KeepsSlots}
 use Rattle.steps.specs.Scans.{IsTracked, ScansIn, spots}
 use Rattle.steps.specs.declared.checkpoints.Checkpoint.{Checkpoint}
 
 pub slots_same : (slots new : Slots) → new ≡ slots → KeepsSlots slots new
-slots_same slots new e i key is = ap (λ (l : Slots). key_at l i) e ∙ is
+slots_same slots new e = record { keys = λ i key is. ap (λ (l : Slots). key_at l i) e ∙ is; aside = λ i is. ap (λ (l : Slots). aside_at l i) (sym e) ∙ is }
 
 pub slots_then : (a b c : Slots) → KeepsSlots a b → KeepsSlots b c → KeepsSlots a c
-slots_then a b c f g i key is = g i key (f i key is)
+slots_then a b c f g = record { keys = λ i key is. g.keys i key (f.keys i key is); aside = λ i is. f.aside i (g.aside i is) }
 
 same_key : (f : Record → Record) → KeepsKey f → (o : Option Record) → option_map (λ r. r.key) (option_map f o) ≡ option_map (λ r. r.key) o
 same_key f keeps None = refl
 same_key f keeps (Some r) = ap (λ (k : Bytes). Some k) (keeps r)
 
--- a change of the record in a slot
-pub slots_changed : (f : Record → Record) → KeepsKey f → (slots : Slots) (i : ℕ) → KeepsSlots slots (changed f slots i)
-slots_changed f keeps slots i j key is =
+-- a change of a record that doesn't set it aside
+abbrev pub KeepsAside : (Record → Record) → Type 0
+KeepsAside f = (r : Record) → (f r).aside ≡ true → r.aside ≡ true
+
+same_aside : (f : Record → Record) → KeepsAside f → (o : Option Record) → is_aside (option_map f o) ≡ true → is_aside o ≡ true
+same_aside f keeps None is = is
+same_aside f keeps (Some r) is = keeps r is
+
+keys_changed : (f : Record → Record) → KeepsKey f → (slots : Slots) (i j : ℕ) (key : Bytes) → key_at slots j ≡ Some key → key_at (changed f slots i) j ≡ Some key
+keys_changed f keeps slots i j key is =
     elim (cases_eq j i) [
       | inl e ↦
           ap (key_at (changed f slots i)) e
@@ -39,17 +48,64 @@ slots_changed f keeps slots i j key is =
       | inr differs ↦ ap (option_map (λ (r : Record). r.key)) (get_or-set_other slots i j (option_map f (record_at slots i)) None differs) ∙ is
     ]
 
--- a record more, in a slot that was vacant
-pub slots_created : (slots : Slots) (i : ℕ) (r : Record) → record_at slots i ≡ None → KeepsSlots slots (with_record slots i r)
-slots_created slots i r vacant j key is =
-    elim (cases_eq j i) [
-      | inl e ↦ absurd (let none : key_at slots j ≡ None = ap (key_at slots) e ∙ ap (option_map (λ (r : Record). r.key)) vacant in cc)
-      | inr differs ↦ ap (option_map (λ (r : Record). r.key)) (at_with_other slots i r j differs) ∙ is
-    ]
+-- a change of the record in a slot
+pub slots_changed : (f : Record → Record) → KeepsKey f → KeepsAside f → (slots : Slots) (i : ℕ) → KeepsSlots slots (changed f slots i)
+slots_changed f keeps stays slots i = record { keys = keys_changed f keeps slots i; aside = by }
+  where
+    by : (j : ℕ) → aside_at (changed f slots i) j ≡ true → aside_at slots j ≡ true
+    by j is =
+        elim (cases_eq j i) [
+          | inl e ↦
+              ap (aside_at slots) e
+              ∙ same_aside f stays (record_at slots i) (sym (ap (aside_at (changed f slots i)) e ∙ ap is_aside (edited_here (option_map f) refl slots i)) ∙ is)
+          | inr differs ↦ sym (ap is_aside (get_or-set_other slots i j (option_map f (record_at slots i)) None differs)) ∙ is
+        ]
+
+-- a record more, in a slot that was vacant, changed so and not set aside
+pub slots_made : (f : Record → Record) → KeepsKey f → (slots : Slots) (i : ℕ) (r : Record) → record_at slots i ≡ None → KeepsSlots slots (changed (with_aside false) (changed f (with_record slots i r) i) i)
+slots_made f keeps slots i r vacant = record {
+  keys = λ j key is. keys_changed (with_aside false) (λ r. refl) (changed f (with_record slots i r) i) i j key (keys_changed f keeps (with_record slots i r) i j key (created j key is));
+  aside = by;
+}
+  where
+    created : (j : ℕ) (key : Bytes) → key_at slots j ≡ Some key → key_at (with_record slots i r) j ≡ Some key
+    created j key is =
+        elim (cases_eq j i) [
+          | inl e ↦ absurd (let none : key_at slots j ≡ None = ap (key_at slots) e ∙ ap (option_map (λ (r : Record). r.key)) vacant in cc)
+          | inr differs ↦ ap (option_map (λ (r : Record). r.key)) (at_with_other slots i r j differs) ∙ is
+        ]
+
+    cleared : (o : Option Record) → is_aside (option_map (with_aside false) o) ≡ false
+    cleared None = refl
+    cleared (Some r) = refl
+
+    written : Slots
+    written = changed f (with_record slots i r) i
+
+    by : (j : ℕ) → aside_at (changed (with_aside false) written i) j ≡ true → aside_at slots j ≡ true
+    by j is =
+        elim (cases_eq j i) [
+          | inl e ↦
+              absurd (true≢false (sym is ∙ ap (aside_at (changed (with_aside false) written i)) e ∙ ap is_aside (edited_here (option_map (with_aside false)) refl written i) ∙ cleared (record_at written i)))
+          | inr differs ↦
+              sym (
+              ap is_aside (get_or-set_other written i j (option_map (with_aside false) (record_at written i)) None differs)
+              ∙ ap is_aside (get_or-set_other (with_record slots i r) i j (option_map f (record_at (with_record slots i r) i)) None differs)
+              ∙ ap is_aside (at_with_other slots i r j differs)
+              )
+              ∙ is
+        ]
+
+-- all records come to rest
+pub slots_rested : (slots : Slots) → KeepsSlots slots (map (option_map at_rest) slots)
+slots_rested slots = record {
+  keys = λ i key is. ap (option_map (λ (r : Record). r.key)) (get_or-map (option_map at_rest) slots i None) ∙ same_key at_rest (λ r. refl) (record_at slots i) ∙ is;
+  aside = λ i is. same_aside at_rest (λ r is. is) (record_at slots i) (sym (ap is_aside (get_or-map (option_map at_rest) slots i None)) ∙ is);
+}
 
 -- the places of a scan, where the records keep their slots
 pub spots_kept : (kind : Kind) (slots new : Slots) (frozen : KeySet) → KeepsSlots slots new → (i : ℕ) (q : Bytes) → spots kind slots frozen i ≡ Some q → spots kind new frozen i ≡ Some q
-spots_kept Full slots new frozen keeps i q is = keeps i q is
+spots_kept Full slots new frozen keeps i q is = keeps.keys i q is
 spots_kept Partial slots new frozen keeps i q is = is
 
 module _ {A : Type 0} where

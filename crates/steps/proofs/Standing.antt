@@ -151,4 +151,5 @@ module _ {A : Type 0} where
       starts = f ∙ ap (λ l. slice_set l s (Some c.phase)) ok.starts ∙ ap (slice_set (map start_of c.calls.items) s) (ap (λ p. Some p) (sym n.start)) ∙ sym (map-set start_of c.calls.items s (Some call)) ∙ ap (map start_of) (sym e);
       numbers = ok.numbers;
       last = ok.last;
+      aside = ok.aside;
     }

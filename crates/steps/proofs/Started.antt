@@ -52,6 +52,7 @@ module _ {A : Type 0} (c : Inside A) (ok : IsCore c) (kind : Kind) (log : Log) (
     starts = ok.starts;
     numbers = ok.numbers;
     last = token_last c ok Prepare (suc ok.world.number) log.records log_as;
+    aside = ok.aside;
   }
 
   pub start_number : (v : CoreView) → view_of c ≡ v → c.checkpoint.number + 1 ≡ suc (number_of v.log)

@@ -79,4 +79,5 @@ module _ {A : Type 0} where
       starts = ok.starts;
       numbers = ok.numbers;
       last = ok.last;
+      aside = ok.aside;
     }

@@ -1,5 +1,5 @@
 -- How the fields of a core stand for a state of the machine that a schedule reaches.
-use Rattle.std.specs.Prelude.{ℕ, ◌≡◌, ◌<◌, Bool, true, false, List, [], Option, Some, None, slice_index_or, length, map, reverse}
+use Rattle.std.specs.Prelude.{ℕ, ◌≡◌, ◌<◌, Bool, true, false, ◌||◌, List, [], Option, Some, None, slice_index_or, length, map, reverse}
 use Rattle.std.specs.Option.{option_map}
 use Rattle.procedure.specs.Bytes.{Bytes}
 use Rattle.procedure.specs.declared.limits.TheConstants.{SESSIONS}
@@ -11,7 +11,8 @@ use Rattle.image.specs.Merges.{table_of}
 use Rattle.locktable.specs.declared.modes.Mode.{Mode}
 use Rattle.locktable.specs.declared.modes.Mode.TheVariants.{Shared, Exclusive}
 use Rattle.locktable.specs.Locks.{mode_of}
-use Rattle.record_store.specs.ChangedSets.{has}
+use Rattle.record_store.specs.ChangedSets.{ChangedSets, has}
+use Rattle.steps.specs.Asides.{AsideIn}
 use Rattle.steps.specs.Backwards.{before}
 use Rattle.steps.specs.CoreViews.{CheckpointView, CoreView, IsSmall, Underway}
 use Rattle.steps.specs.Edits.{first_noted, noted_of, versions_in}
@@ -21,6 +22,10 @@ use Rattle.steps.specs.declared.calls.OpenCall.{OpenCall}
 use Rattle.steps.specs.declared.checkpoints.Checkpoint.{Checkpoint}
 use Rattle.steps.specs.declared.notes.Note.{Note}
 use Rattle.steps.specs.declared.cores.Core.TheInside.{Inside}
+
+-- whether a key is in either set
+abbrev pub either : ChangedSets → Bytes → Bool
+either changed key = has changed.collecting key || has changed.frozen key
 
 -- the lock on a key, of a call that has read or written it, or not
 abbrev pub mode_by : (writes reads : Bool) → Option Mode
@@ -111,3 +116,4 @@ module _ {A : Type 0} where
     pub starts : c.active ≡ map start_of c.calls.items
     pub numbers : length c.last.items ≡ SESSIONS
     pub last : (s : ℕ) → s < SESSIONS → slice_index_or c.last.items s None ≡ last_number s c.log.records
+    pub aside : AsideIn c.aside c.store (either c.changed) c.locks

@@ -9,6 +9,7 @@ use Rattle.record_store.specs.Stores.{Record, Slots, key_at, record_at}
 use Rattle.record_store.specs.Versions as stored
 use Rattle.record_store.specs.declared.records.Stable.{Stable}
 use Rattle.record_store.specs.declared.records.Stable.TheVariants.{Empty, Was}
+use Rattle.steps.specs.Asides.{aside_at}
 use Rattle.steps.specs.World.{Version, Versions, captured_at, copied, gives, undone, undone_key, kept_key}
 use Rattle.steps.specs.declared.notes.Note.{Note}
 
@@ -28,9 +29,10 @@ shown v = record { live = v.live; stable = cell_of v.stable; available = v.avail
 unfoldable pub versions_in : Slots → Versions
 versions_in slots key = option_map shown (stored.version_of slots key)
 
--- each key that has a record keeps its slot
-abbrev pub KeepsSlots : Slots → Slots → Type 0
-KeepsSlots old new = (slot : ℕ) (key : Bytes) → key_at old slot ≡ Some key → key_at new slot ≡ Some key
+-- each key that has a record keeps its slot, and no record is newly set aside
+pub record KeepsSlots (old new : Slots) : Type 0 where
+  pub keys : (slot : ℕ) (key : Bytes) → key_at old slot ≡ Some key → key_at new slot ≡ Some key
+  pub aside : (slot : ℕ) → aside_at new slot ≡ true → aside_at old slot ≡ true
 
 -- the record, with another version
 abbrev pub with_version : Record → Version → Record

@@ -1,5 +1,6 @@
 pub mod Backwards
 pub mod World
+pub mod Asides
 pub mod Edits
 pub mod Good
 pub mod Headline
@@ -11,6 +12,7 @@ pub mod Openings
 pub mod Locked
 pub mod Advances
 pub mod CutImages
+pub mod Reclaiming
 pub mod Scans
 pub mod CoreFields
 pub mod Versions

@@ -13,6 +13,7 @@ use Rattle.steps.specs.CoreViews.{CoreView, Finishes, GivesUp, IsAnswer, OfOpen,
 use Rattle.steps.specs.Headline.{Begun}
 use Rattle.steps.specs.Checkpointing.{AdvancesTo, CapturesAs, abandoned, started, taken}
 use Rattle.steps.specs.CutImages.{IsTaken}
+use Rattle.steps.specs.Reclaiming.{IsReclaimable, Reclaims}
 use Rattle.steps.specs.Refusals.{Answers, abandon_refusal, advance_refusal, begin_refusal, capture_refusal, finish_refusal, start_refusal, step_refusal}
 use Rattle.steps.specs.declared.captures.Captured.{Captured}
 use Rattle.steps.specs.declared.errors.AbandonError.{AbandonError}
@@ -86,6 +87,10 @@ pub record TakesImage (old new : CoreView) (i : Option Image) : Type 0 where
   pub taken : new ≡ taken old
   pub cut : IfSome i (λ i. IsTaken old.catalog (table_of old.opening) old.log i)
 
+pub record ReclaimsAs (old new : CoreView) (gone : Option Bytes) : Type 0 where
+  pub key : IsReclaimable old gone
+  pub reclaimed : Reclaims old new gone
+
 pub record AbandonsAs (old new : CoreView) (r : Result ℕ AbandonError) : Type 0 where
   pub abandoned : OnOk r (new ≡ abandoned old)
   pub number : IfOk r (λ n. n ≡ number_of old.log)
@@ -102,6 +107,7 @@ module _ {A : Type 0} where
   Handles event.Advance old new x = (r : Result Phase AdvanceError) × (x ≡ reply.Advance r) × AdvancesAs old new r
   Handles event.Capture old new x = (r : Result Captured CaptureError) × (x ≡ reply.Capture r) × VisitsAs old new r
   Handles event.TakeImage old new x = (i : Option Image) × (x ≡ reply.TakeImage i) × TakesImage old new i
+  Handles event.Reclaim old new x = (gone : Option Bytes) × (x ≡ reply.Reclaim gone) × ReclaimsAs old new gone
   Handles event.Abandon old new x = (r : Result ℕ AbandonError) × (x ≡ reply.Abandon r) × AbandonsAs old new r
 
   -- ALL OF THEM
@@ -124,6 +130,7 @@ module _ {A : Type 0} where
   is_accepted (reply.Advance r) = is_ok r
   is_accepted (reply.Capture r) = is_ok r
   is_accepted (reply.TakeImage i) = is_some i
+  is_accepted (reply.Reclaim gone) = is_some gone
   is_accepted (reply.Abandon r) = is_ok r
 
   -- with what each session's open call was begun, where an event is accepted
@@ -137,6 +144,7 @@ module _ {A : Type 0} where
   begun_by event.Advance true b = b
   begun_by event.Capture true b = b
   begun_by event.TakeImage true b = b
+  begun_by event.Reclaim true b = b
   begun_by event.Abandon true b = b
 
   -- a call at its place, with what its begin gave and what its answer gives
@@ -152,6 +160,7 @@ module _ {A : Type 0} where
   answer_to event.Advance r b = []
   answer_to event.Capture r b = []
   answer_to event.TakeImage r b = []
+  answer_to event.Reclaim r b = []
   answer_to event.Abandon r b = []
   answer_to (event.Finish s) (reply.Finish (Ok a)) b = answered_call s (slice_index_or b s None) a
   answer_to (event.Finish s) (reply.Finish (Err e)) b = []
@@ -162,6 +171,7 @@ module _ {A : Type 0} where
   answer_to (event.Finish s) (reply.Advance r) b = []
   answer_to (event.Finish s) (reply.Capture r) b = []
   answer_to (event.Finish s) (reply.TakeImage i) b = []
+  answer_to (event.Finish s) (reply.Reclaim gone) b = []
   answer_to (event.Finish s) (reply.Abandon r) b = []
 
   -- the calls of the accepted finishes, in order, each at the place that its answer gives
@@ -182,6 +192,7 @@ module _ {A : Type 0} where
   image_in (reply.Capture r) = []
   image_in (reply.TakeImage None) = []
   image_in (reply.TakeImage (Some i)) = i ∷ []
+  image_in (reply.Reclaim gone) = []
   image_in (reply.Abandon r) = []
 
   -- the images in the replies, in their order

@@ -8,6 +8,7 @@ ghost use Rattle.image.specs.Headers.{IsOnce, of_captured};
 ghost use Rattle.image.specs.Images.{IsLawful};
 ghost use Rattle.record_store.specs.Stores.{changed, key_at, record_at};
 ghost use Rattle.record_store.specs.Stores as recorded;
+ghost use Rattle.steps.specs.Asides.{aside_at};
 ghost use Rattle.steps.specs.Checkpointing.{AdvancesTo, CapturesAs, visited};
 ghost use Rattle.steps.specs.Edits.{captured, edited, given_by, given_of, is_kept, kept_of, versions_in};
 ghost use Rattle.steps.specs.Refusals.{Answers, advance_refusal, capture_refusal};
@@ -18,6 +19,7 @@ ghost use Rattle.steps.specs.declared.errors.CaptureError.TheVariants as capturi
 use crate::checkpointing::push_token;
 use crate::cores::Core;
 use crate::errors::CaptureError;
+use crate::reclaiming::Aside;
 use image::{Entry, Image, Kind};
 use phase::Phase;
 use procedure::{Key, NoMemory, Value};
@@ -44,7 +46,7 @@ fn copy_of<A: Allocator + Clone>(live: Option<&Value<A>>) -> Result<Option<Value
 }
 
 /// The key whose record a slot holds.
-fn key_in<A: Allocator>(store: &Store<A>, slot: usize) -> Option<Key>
+pub(crate) fn key_in<A: Allocator>(store: &Store<A>, slot: usize) -> Option<Key>
     ensures { result ≡ key_at store.now slot }
 {
     match store.slot(slot) {
@@ -115,6 +117,7 @@ fn visit<A: Allocator + Clone>(
 ) -> Result<Option<Entry<A>>, NoMemory>
     ensures once { IsSome key → recorded.IsOnce store.old }
     ensures keys { OnOk result ((slot : ℕ) → key_at store.new slot ≡ key_at store.old slot) }
+    ensures aside { OnOk result ((slot : ℕ) → aside_at store.new slot ≡ aside_at store.old slot) }
     ensures versions { OnOk result ((q : Bytes) → versions_in store.new q ≡ visited key q (versions_in store.old q)) }
     ensures given { IfOk result (λ given. given ≡ given_of (versions_in store.old) key) }
     ensures err { OnErr result (store.new ≡ store.old) }
@@ -240,6 +243,8 @@ impl<A: Allocator + Clone> Core<A> {
             entries,
         );
         self.changed.clear_frozen();
+        // Records that were set aside since their keys were collected may go now.
+        self.aside = Aside::Unknown;
         self.checkpoint.finished = self.checkpoint.number;
         self.checkpoint.waiting = Some(image);
         self.phase = Phase::Complete;

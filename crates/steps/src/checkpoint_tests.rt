@@ -2,41 +2,41 @@
 use super::*;
 use crate::schedule_tests::{BEGUN, Deed, GIVEN_UP, READY, Said, Schedule, run};
 use crate::tests::{DELETE, Given, NEW, Pairs, SET};
-use Deed::{Abandon, Advance, Begin, Capture, Finish, GiveUp, Start, Step, Take};
+use Deed::{Abandon, Advance, Begin, Capture, Finish, GiveUp, Reclaim, Start, Step, Take};
 use Given::{Number, Text};
-use Said::{Abandons, Answers, Captures, Enters, Starts, Takes, TakesNone};
+use Said::{Abandons, Answers, Captures, Enters, Reclaims, ReclaimsNone, Starts, Takes, TakesNone};
 use image::Kind::{Full, Partial};
 use phase::Phase;
 use std::test::Fail;
 
-type Line = (Deed<'static>, Said<'static>);
+pub(crate) type Line = (Deed<'static>, Said<'static>);
 
-const RESOLVE: Line = (Advance, Enters(Ok(Phase::Resolve)));
+pub(crate) const RESOLVE: Line = (Advance, Enters(Ok(Phase::Resolve)));
 
-const CAPTURE: Line = (Advance, Enters(Ok(Phase::Capture)));
+pub(crate) const CAPTURE: Line = (Advance, Enters(Ok(Phase::Capture)));
 
-const COMPLETE: Line = (Advance, Enters(Ok(Phase::Complete)));
+pub(crate) const COMPLETE: Line = (Advance, Enters(Ok(Phase::Complete)));
 
-const REST: Line = (Advance, Enters(Ok(Phase::Rest)));
+pub(crate) const REST: Line = (Advance, Enters(Ok(Phase::Rest)));
 
 const STILL_ACTIVE: Line = (Advance, Enters(Err(AdvanceError::StillActive)));
 
 const NOT_SCANNED: Line = (Advance, Enters(Err(AdvanceError::NotScanned)));
 
-const SLOT: Line = (Capture, Captures(Ok(Captured::Slot)));
+pub(crate) const SLOT: Line = (Capture, Captures(Ok(Captured::Slot)));
 
-const DONE: Line = (Capture, Captures(Ok(Captured::Done)));
+pub(crate) const DONE: Line = (Capture, Captures(Ok(Captured::Done)));
 
 /// The key `a` with the number 1.
-const ONE: Pairs<'static> = &[(Text(b"a"), Number(1))];
+pub(crate) const ONE: Pairs<'static> = &[(Text(b"a"), Number(1))];
 
-const FULL_1: Line = (Start(Full), Starts(Ok(1)));
+pub(crate) const FULL_1: Line = (Start(Full), Starts(Ok(1)));
 
-const FULL_2: Line = (Start(Full), Starts(Ok(2)));
+pub(crate) const FULL_2: Line = (Start(Full), Starts(Ok(2)));
 
-const PARTIAL_1: Line = (Start(Partial), Starts(Ok(1)));
+pub(crate) const PARTIAL_1: Line = (Start(Partial), Starts(Ok(1)));
 
-const PARTIAL_2: Line = (Start(Partial), Starts(Ok(2)));
+pub(crate) const PARTIAL_2: Line = (Start(Partial), Starts(Ok(2)));
 
 /// An empty table.
 const SMALLEST: Schedule<'static> = Schedule {
@@ -176,6 +176,7 @@ const GONE: Schedule<'static> = Schedule {
         (Begin(0, 1, DELETE, &[Text(b"a")]), BEGUN),
         (Step(0), READY),
         (Finish(0), Answers(5, 0, &[])),
+        (Reclaim, ReclaimsNone),
         PARTIAL_2,
         RESOLVE,
         CAPTURE,
@@ -183,6 +184,10 @@ const GONE: Schedule<'static> = Schedule {
         DONE,
         COMPLETE,
         (Take, Takes(Partial, 2, 1, 7, &[(b"a", None)])),
+        (Reclaim, ReclaimsNone),
+        REST,
+        (Reclaim, Reclaims(b"a")),
+        (Reclaim, ReclaimsNone),
     ],
 };
 

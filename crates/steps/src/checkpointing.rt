@@ -222,7 +222,14 @@ impl<A: Allocator> Core<A> {
         Ok(number)
     }
 
-    /// The image of the last checkpoint, once: it is that of its cut.
+    /// How many places the scan has visited, of the checkpoint that runs or of the last one that ran.
+    pub fn scanned(&self) -> usize
+        ensures { result ≡ self.now.checkpoint.cursor }
+    {
+        self.checkpoint.cursor
+    }
+
+    /// The image of the last checkpoint, once, and None where none waits: it is that of its cut.
     pub fn take_image(&mut self) -> Option<Image<A>>
         ensures image { result ≡ self.old.checkpoint.waiting }
         ensures taken { self.new ≡ taken self.old }

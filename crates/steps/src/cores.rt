@@ -7,6 +7,7 @@ ghost use Rattle.steps.specs.CoreViews.{IsSmall};
 
 use crate::calls::OpenCall;
 use crate::checkpoints::Checkpoint;
+use crate::reclaiming::Aside;
 use commitlog::{Log, Record};
 use image::Image;
 use locktable::LockTable;
@@ -32,6 +33,7 @@ pub struct Core<A: Allocator> {
     pub(crate) last: Vec<Option<u64>, A>,
     pub(crate) phase: Phase,
     pub(crate) checkpoint: Checkpoint<A>,
+    pub(crate) aside: Aside,
 }
 
 impl<A: Allocator> Model for Core<A> {

@@ -123,7 +123,10 @@ pub(crate) fn write_key<A: Allocator + Clone>(
         },
         None => match store.create(key, is_late(phase)) {
             Ok(slot) => match write_record(store, slot, start, live) {
-                Ok(before) => Ok(before),
+                Ok(before) => {
+                    store.reconsider(slot);
+                    Ok(before)
+                }
                 Err(NoMemory) => Err(CreateError::NoMemory),
             },
             Err(refused) => Err(refused),

@@ -231,6 +231,7 @@ impl<A: Allocator + Clone> Core<A> {
                 );
                 append(&mut self.log, record_of(call, outcome, given));
                 self.locks.release_all(index);
+                self.aside = self.aside.after_release();
                 self.active.clear(index);
                 self.last[index] = Some(number);
                 Ok(Answer {

@@ -38,6 +38,7 @@ impl<A: Allocator> Core<A> {
             Some(call) => {
                 undo_all(&mut self.store, call.notes);
                 self.locks.release_all(index);
+                self.aside = self.aside.after_release();
                 self.active.clear(index);
                 Ok(())
             }

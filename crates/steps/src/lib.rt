@@ -28,6 +28,9 @@ mod locking;
 mod notes;
 mod open;
 #[cfg(test)]
+mod reclaim_tests;
+mod reclaiming;
+#[cfg(test)]
 mod schedule_tests;
 pub mod schedules;
 pub mod step;

@@ -16,6 +16,7 @@ use crate::checkpoints::Checkpoint;
 use crate::cores::Core;
 use crate::edits::write_key;
 use crate::errors::OpenError;
+use crate::reclaiming::Aside;
 use commitlog::Log;
 use image::{Entry, Image, Kind};
 use locktable::LockTable;
@@ -110,6 +111,7 @@ fn build<A: Allocator + Copy>(
         last,
         phase: Phase::Rest,
         checkpoint: Checkpoint::none(alloc),
+        aside: Aside::Unknown,
     })
 }
 

@@ -4,11 +4,11 @@ use super::*;
 use crate::tests::{
     DELETE, DEPOSIT, GET, Given, MOVE, NEW, NOTHING, Pairs, SET, SWAP, arguments, beginning, opened,
 };
-use Deed::{Abandon, Advance, Begin, Capture, Finish, GiveUp, Start, Step, Take};
+use Deed::{Abandon, Advance, Begin, Capture, Finish, GiveUp, Reclaim, Start, Step, Take};
 use Given::{Long, Number, Text};
 use Said::{
-    Abandons, Answers, Begins, Captures, Enters, GivesUp, Starts, Steps, Takes, TakesNone,
-    Unfinished,
+    Abandons, Answers, Begins, Captures, Enters, GivesUp, Reclaims, ReclaimsNone, Starts, Steps,
+    Takes, TakesNone, Unfinished,
 };
 use image::{Entry, Kind};
 use phase::Phase;
@@ -29,6 +29,7 @@ pub(crate) enum Deed<'a> {
     Advance,
     Capture,
     Take,
+    Reclaim,
     Abandon,
 }
 
@@ -46,6 +47,8 @@ pub(crate) enum Said<'a> {
     Captures(Result<Captured, CaptureError>),
     Takes(Kind, u64, u64, u64, &'a [(&'a [u8], Option<u64>)]),
     TakesNone,
+    Reclaims(&'a [u8]),
+    ReclaimsNone,
     Abandons(Result<u64, AbandonError>),
 }
 
@@ -82,6 +85,7 @@ fn event(alloc: Global, deed: Deed<'_>) -> Result<Event<Global>, NoMemory> {
         Advance => Ok(Event::Advance),
         Capture => Ok(Event::Capture),
         Take => Ok(Event::TakeImage),
+        Reclaim => Ok(Event::Reclaim),
         Abandon => Ok(Event::Abandon),
     }
 }
@@ -143,6 +147,8 @@ fn is_said(reply: &Reply<Global>, said: Said<'_>) -> bool {
                 && are_entries(image.entries(), entries)
         }
         (Reply::TakeImage(None), TakesNone) => true,
+        (Reply::Reclaim(Some(key)), Reclaims(said)) => key.as_bytes() == said,
+        (Reply::Reclaim(None), ReclaimsNone) => true,
         (Reply::Abandon(answer), Abandons(said)) => *answer == said,
         _ => false,
     }

@@ -12,6 +12,7 @@ use crate::finish::Answer;
 use crate::step::Stepped;
 use image::{Image, Kind};
 use phase::Phase;
+use procedure::Key;
 use std::alloc::Allocator;
 
 /// One call of a core, with what it is given.
@@ -33,6 +34,8 @@ pub enum Event<A: Allocator> {
     Capture,
     /// The finished image is taken.
     TakeImage,
+    /// A dead record goes.
+    Reclaim,
     /// The checkpoint is given up.
     Abandon,
 }
@@ -51,6 +54,8 @@ pub enum Reply<A: Allocator> {
     Capture(Result<Captured, CaptureError>),
     /// None where no image waited.
     TakeImage(Option<Image<A>>),
+    /// The key whose record went, if one did.
+    Reclaim(Option<Key>),
     /// The number of the checkpoint.
     Abandon(Result<u64, AbandonError>),
 }
@@ -71,6 +76,7 @@ impl<A: Allocator + Clone> Core<A> {
             Event::Advance => Reply::Advance(self.advance()),
             Event::Capture => Reply::Capture(self.capture()),
             Event::TakeImage => Reply::TakeImage(self.take_image()),
+            Event::Reclaim => Reply::Reclaim(self.reclaim()),
             Event::Abandon => Reply::Abandon(self.abandon()),
         }
     }

@@ -15,7 +15,7 @@ returns-in-None-clause-versions g c q = none_kept c.args.start c.args.phase c.ar
 
 pub returns-in-Some-clause-keys : goal.returns-in-Some-clause-keys
 returns-in-Some-clause-keys g c =
-    subst (λ (l : Slots). KeepsSlots c.args.store.now l) (sym c.keep_record.ensures) (slots_changed (edited (kept c.args.start c.args.phase)) (λ r. refl) c.args.store.now c.in-Some.slot)
+    subst (λ (l : Slots). KeepsSlots c.args.store.now l) (sym c.keep_record.ensures) (slots_changed (edited (kept c.args.start c.args.phase)) (λ r. refl) (λ r is. is) c.args.store.now c.in-Some.slot)
 
 pub returns-in-None-clause-keys : goal.returns-in-None-clause-keys
 returns-in-None-clause-keys g c = slots_same c.args.store.now c.args.store.now refl

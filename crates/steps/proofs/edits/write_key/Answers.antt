@@ -1,12 +1,12 @@
-use Rattle.std.proofs.Common.{◌≡◌, refl, ap, ◌∙◌, sym, subst, None, Bool, IsSome, Err}
-use Rattle.record_store.specs.Stores.{Slots, changed, live_at, with_record, new_record}
+use Rattle.std.proofs.Common.{◌≡◌, refl, ap, ◌∙◌, sym, subst, None, Bool, false, IsSome, Err}
+use Rattle.record_store.specs.Stores.{Slots, changed, live_at, with_aside, with_record, new_record}
 use Rattle.procedure.specs.Bytes.{Bytes, Cell}
 use Rattle.record_store.specs.declared.stores.CreateError.{CreateError}
 use Rattle.record_store.specs.declared.stores.CreateError.TheVariants.{TableFull}
 use Rattle.steps.specs.World.{live_of}
 use Rattle.steps.specs.Edits.{KeepsSlots, versions_in, edited, written}
-use Rattle.steps.proofs.Slots.{slots_changed, slots_created, slots_then}
-use Rattle.steps.proofs.Edited.{found_in, none_in, live_in, live_created, versions_written, versions_made}
+use Rattle.steps.proofs.Slots.{slots_changed, slots_made}
+use Rattle.steps.proofs.Edited.{found_in, none_in, live_in, live_created, versions_aside, versions_written, versions_made}
 use Rattle.steps.proofs.edits.write_key.Goals as goal
 
 pub returns-in-Ok-clause-before : goal.returns-in-Ok-clause-before
@@ -35,7 +35,8 @@ returns-in-Ok-write_record-clause-before g c =
 
 pub returns-in-Ok-write_record-clause-ok : goal.returns-in-Ok-write_record-clause-ok
 returns-in-Ok-write_record-clause-ok g c q =
-    ap (λ (l : Slots). versions_in l q) (c.in-Ok-write_record.ensures.ok ∙ ap (λ (l : Slots). changed (edited (written c.args.start c.args.live)) l c.in-Ok-create.slot)
+    ap (λ (l : Slots). versions_in l q) c.reconsider.ensures ∙ versions_aside false c.write_record-in-Ok-create.new.store c.in-Ok-create.slot q
+    ∙ ap (λ (l : Slots). versions_in l q) (c.in-Ok-write_record.ensures.ok ∙ ap (λ (l : Slots). changed (edited (written c.args.start c.args.live)) l c.in-Ok-create.slot)
     (c.in-Ok-create.ensures.ok ∙ ap (λ (b : Bool). with_record c.args.store.now c.in-Ok-create.slot (new_record c.args.key b)) c.is_late.ensures))
     ∙ versions_made c.args.phase c.args.start c.args.live c.args.store.now c.in-Ok-create.slot c.args.key q c.find.ensures.once c.in-Ok-create.ensures.vacant c.in-None.ensures.found
 
@@ -53,15 +54,17 @@ returns-in-Err-create-clause-full g c =
 
 pub returns-in-Ok-clause-keys : goal.returns-in-Ok-clause-keys
 returns-in-Ok-clause-keys g c =
-    subst (λ (l : Slots). KeepsSlots c.args.store.now l) (sym c.in-Ok.ensures.ok) (slots_changed (edited (written c.args.start c.args.live)) (λ r. refl) c.args.store.now c.in-Some.slot)
+    subst (λ (l : Slots). KeepsSlots c.args.store.now l) (sym c.in-Ok.ensures.ok) (slots_changed (edited (written c.args.start c.args.live)) (λ r. refl) (λ r is. is) c.args.store.now c.in-Some.slot)
 
 pub returns-in-Ok-write_record-clause-keys : goal.returns-in-Ok-write_record-clause-keys
 returns-in-Ok-write_record-clause-keys g c =
-    let made : KeepsSlots c.args.store.now (with_record c.args.store.now c.in-Ok-create.slot (new_record c.args.key c.is_late.result)) =
-    slots_created c.args.store.now c.in-Ok-create.slot (new_record c.args.key c.is_late.result) c.in-Ok-create.ensures.vacant in
-    slots_then c.args.store.now c.create.new.self c.write_record-in-Ok-create.new.store
-    (subst (λ (l : Slots). KeepsSlots c.args.store.now l) (sym c.in-Ok-create.ensures.ok) made)
-    (subst (λ (l : Slots). KeepsSlots c.create.new.self l) (sym c.in-Ok-write_record.ensures.ok) (slots_changed (edited (written c.args.start c.args.live)) (λ r. refl) c.create.new.self c.in-Ok-create.slot))
+    subst (λ (l : Slots). KeepsSlots c.args.store.now l)
+    (sym (
+    c.reconsider.ensures
+    ∙ ap (λ (l : Slots). changed (with_aside false) l c.in-Ok-create.slot)
+    (c.in-Ok-write_record.ensures.ok ∙ ap (λ (l : Slots). changed (edited (written c.args.start c.args.live)) l c.in-Ok-create.slot) c.in-Ok-create.ensures.ok)
+    ))
+    (slots_made (edited (written c.args.start c.args.live)) (λ r. refl) c.args.store.now c.in-Ok-create.slot (new_record c.args.key c.is_late.result) c.in-Ok-create.ensures.vacant)
 
 pub returns-in-Err-write_record-clause-keys : goal.returns-in-Err-write_record-clause-keys
 returns-in-Err-write_record-clause-keys g c =

@@ -43,6 +43,7 @@ invariant_of-self-2 g c =
       key_is = c.key_at_place-key.ensures;
       once = c.in-Ok.ensures.once;
       keys = c.in-Ok.ensures.keys;
+      aside = c.in-Ok.ensures.aside;
       versions = c.in-Ok.ensures.versions;
       kept_is =
           c.keep.ensures
@@ -59,6 +60,7 @@ returns-clause-captured g c =
       key_is = c.key_at_place-key.ensures;
       once = c.in-Ok.ensures.once;
       keys = c.in-Ok.ensures.keys;
+      aside = c.in-Ok.ensures.aside;
       versions = c.in-Ok.ensures.versions;
       kept_is =
           c.keep.ensures

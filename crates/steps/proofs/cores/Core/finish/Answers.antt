@@ -68,7 +68,7 @@ invariant_of-self-in-Some g c =
     let starts = c.clear.ensures ∙ ap (λ i. slice_set c.self.inside.active i None) c.from-index.ensures in
     let last_is = ap (λ i. slice_set c.self.inside.last.items i (Some c.in-Some.call.number)) c.from-index.ensures in
     let last = with_item c.self.inside.last c.from-index.result (Some c.in-Some.call.number) in
-    finish_core c.self.inside c.self.invariant c.args.session c.in-Some.call is c.append.new.log c.settle.new.store c.release_all.new.self c.settle.new.changed c.taken.new.calls c.clear.new.self last c.in_ok-outcome.outcome outcome done.0 log_is calls_are c.settle.ensures.versions collecting frozen locks_are starts last_is c.settle.ensures.most c.settle.ensures.keys
+    finish_core c.self.inside c.self.invariant c.args.session c.in-Some.call is c.append.new.log c.settle.new.store c.release_all.new.self c.settle.new.changed c.taken.new.calls c.clear.new.self last c.after_release-self-inside.result c.in_ok-outcome.outcome outcome done.0 log_is calls_are c.settle.ensures.versions collecting frozen locks_are starts last_is c.settle.ensures.most c.settle.ensures.keys c.after_release-self-inside.ensures
 
 pub invariant_of-self-in-None-1 : goal.invariant_of-self-in-None-1
 invariant_of-self-in-None-1 g c =
@@ -93,7 +93,7 @@ returns-in-Some-clause-finished g c =
     let starts = c.clear.ensures ∙ ap (λ i. slice_set c.self.inside.active i None) c.from-index.ensures in
     let last_is = ap (λ i. slice_set c.self.inside.last.items i (Some c.in-Some.call.number)) c.from-index.ensures in
     let last = with_item c.self.inside.last c.from-index.result (Some c.in-Some.call.number) in
-    finish_view c.self.inside c.self.invariant c.args.session c.in-Some.call is c.append.new.log c.settle.new.store c.release_all.new.self c.settle.new.changed c.taken.new.calls c.clear.new.self last c.in_ok-outcome.outcome outcome done.0 log_is calls_are c.settle.ensures.versions collecting frozen locks_are starts last_is c.settle.ensures.most c.settle.ensures.keys c.settle.ensures.slots c.args.self.now c.self.view_is
+    finish_view c.self.inside c.self.invariant c.args.session c.in-Some.call is c.append.new.log c.settle.new.store c.release_all.new.self c.settle.new.changed c.taken.new.calls c.clear.new.self last c.after_release-self-inside.result c.in_ok-outcome.outcome outcome done.0 log_is calls_are c.settle.ensures.versions collecting frozen locks_are starts last_is c.settle.ensures.most c.settle.ensures.keys c.after_release-self-inside.ensures c.settle.ensures.slots c.args.self.now c.self.view_is
 
 pub returns-in-Some-clause-answer : goal.returns-in-Some-clause-answer
 returns-in-Some-clause-answer g c =

@@ -13,16 +13,16 @@ clear-requires g c = subst (λ n. c.from-index.result < n) c.self.invariant.sess
 
 pub invariant_of-self : goal.invariant_of-self
 invariant_of-self g c =
-    give_up_core c.self.inside c.self.invariant c.from-index.result c.in-Some.call (sym c.in-Some.ensures.value) c.taken.new.calls c.undo_all.new.store c.release_all.new.self c.clear.new.self
-    c.in-Some.ensures.some c.undo_all.ensures.versions c.undo_all.ensures.keys c.release_all.ensures c.clear.ensures
+    give_up_core c.self.inside c.self.invariant c.from-index.result c.in-Some.call (sym c.in-Some.ensures.value) c.taken.new.calls c.undo_all.new.store c.release_all.new.self c.clear.new.self c.after_release-self-inside.result
+    c.in-Some.ensures.some c.undo_all.ensures.versions c.undo_all.ensures.keys c.release_all.ensures c.clear.ensures c.after_release-self-inside.ensures
 
 pub invariant_of-self-in-None : goal.invariant_of-self-in-None
 invariant_of-self-in-None g c = subst (λ (calls : Vec (Option (OpenCall g.row.A.Denot)) g.row.A.Denot). IsCore (record c.self.inside { calls = calls })) (sym (c.in-None.ensures.none refl)) c.self.invariant
 
 pub returns-in-Some-clause-given_up : goal.returns-in-Some-clause-given_up
 returns-in-Some-clause-given_up g c =
-    subst (λ i. GivesUp c.args.self.now (view_of (gave_up c.self.inside c.self.invariant c.from-index.result c.taken.new.calls c.undo_all.new.store c.release_all.new.self c.clear.new.self)) i) c.from-index.ensures
-    (give_up_view c.self.inside c.self.invariant c.from-index.result c.in-Some.call (sym c.in-Some.ensures.value) c.taken.new.calls c.undo_all.new.store c.release_all.new.self c.clear.new.self
+    subst (λ i. GivesUp c.args.self.now (view_of (gave_up c.self.inside c.self.invariant c.from-index.result c.taken.new.calls c.undo_all.new.store c.release_all.new.self c.clear.new.self c.after_release-self-inside.result)) i) c.from-index.ensures
+    (give_up_view c.self.inside c.self.invariant c.from-index.result c.in-Some.call (sym c.in-Some.ensures.value) c.taken.new.calls c.undo_all.new.store c.release_all.new.self c.clear.new.self c.after_release-self-inside.result
     c.args.self.now c.self.view_is c.in-Some.ensures.some c.undo_all.ensures.versions c.undo_all.ensures.slots)
 
 pub returns-in-Some-clause-active : goal.returns-in-Some-clause-active
