@@ -96,7 +96,7 @@ module _ {A : Type 0} where
   event_kept event.Advance old new x (r, is, h) = advance_kept old new r h
   event_kept event.Capture old new x (r, is, h) = capture_kept old new r h
   event_kept event.TakeImage old new x (i, is, h) = ap (λ (v : CoreView). v.catalog) h.taken
-  event_kept event.Reclaim old new x (gone, is, h) = ap (λ (v : CoreView). v.catalog) h.reclaimed.rest
+  event_kept event.Reclaim old new x (key, is, h) = ap (λ (v : CoreView). v.catalog) h.reclaimed.rest
   event_kept event.Abandon old new x (r, is, h) = abandon_kept old new r h
 
   events_kept : (es : List (Event A)) (old new : CoreView) (rs : List (Reply A)) → HandlesAll es old new rs → new.catalog ≡ old.catalog

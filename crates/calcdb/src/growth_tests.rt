@@ -9,10 +9,10 @@ use std::process::Abort;
 use std::test::Fail;
 
 /// Commands, each with the line that it writes.
-type Row = &'static [(&'static str, &'static str)];
+pub(crate) type Row = &'static [(&'static str, &'static str)];
 
 /// More growths than a call or a short script asks for.
-const MOST: u64 = 10_000;
+pub(crate) const MOST: u64 = 10_000;
 
 const REFUSED: &[u8] = b"refused no memory";
 
@@ -38,7 +38,11 @@ const SCRIPTS: [Row; 2] = [
 ];
 
 /// The commands of a row but the one at a place, each a line.
-fn commands_of(alloc: Global, row: Row, left_out: Option<usize>) -> Result<String<Global>, Fail> {
+pub(crate) fn commands_of(
+    alloc: Global,
+    row: Row,
+    left_out: Option<usize>,
+) -> Result<String<Global>, Fail> {
     let mut text = String::new(alloc);
     for (at, (command, _)) in row.iter().enumerate() {
         if left_out != Some(at) {
@@ -50,7 +54,7 @@ fn commands_of(alloc: Global, row: Row, left_out: Option<usize>) -> Result<Strin
 }
 
 /// What a row writes, each a line.
-fn answers_of(alloc: Global, row: Row) -> Result<String<Global>, Fail> {
+pub(crate) fn answers_of(alloc: Global, row: Row) -> Result<String<Global>, Fail> {
     let mut text = String::new(alloc);
     for (_, answer) in row {
         text.push_str(answer)?;

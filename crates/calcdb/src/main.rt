@@ -5,6 +5,8 @@
 //! (`Runs`), and how a run ends (`Outcomes`).
 #![tactic(auto)]
 
+#[cfg(test)]
+mod call_growth_tests;
 mod command_line;
 mod commands;
 #[cfg(test)]
@@ -19,6 +21,8 @@ mod faults;
 mod growth_tests;
 #[cfg(test)]
 mod growths;
+#[cfg(test)]
+mod image_growth_tests;
 mod instructions;
 #[cfg(test)]
 mod large_tests;

@@ -80,7 +80,10 @@ fn run_call<A: Allocator + Clone>(core: &mut Core<A>, call: NewCall<Arguments<A>
 }
 
 /// Carries out a command, and hands on the reply that is printed.
-fn carry_out<A: Allocator + Clone>(core: &mut Core<A>, command: Command<Arguments<A>>) -> Reply<A>
+pub(crate) fn carry_out<A: Allocator + Clone>(
+    core: &mut Core<A>,
+    command: Command<Arguments<A>>,
+) -> Reply<A>
     ensures { Carried {A = A} (Carries core.old.catalog command) core.old core.new (reply_text result) }
 {
     match command {
@@ -201,7 +204,10 @@ fn push_phase<A: Allocator>(out: &mut Vec<u8, A>, phase: Phase) -> Result<(), No
 }
 
 /// The line that is printed of a reply, and of an image a line for each entry.
-fn push_reply<A: Allocator + Clone>(out: &mut Vec<u8, A>, reply: &Reply<A>) -> Result<(), NoMemory>
+pub(crate) fn push_reply<A: Allocator + Clone>(
+    out: &mut Vec<u8, A>,
+    reply: &Reply<A>,
+) -> Result<(), NoMemory>
     ensures { OnOk result (out.new.items ≡ out.old.items ++ reply_text reply.now) }
 {
     match reply {

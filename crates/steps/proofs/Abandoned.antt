@@ -55,7 +55,7 @@ module _ {A : Type 0} where
   module _ (c : Inside A) (ok : IsCore c) (log : Log) (store : Slots) (changed : ChangedSets) (calls : Vec (Option (OpenCall A)) A) (active : Starts) (checkpoint : Checkpoint A)
       (phase_is : (c.phase ≡ Resolve) ⊎ (c.phase ≡ Capture)) (log_is : log.records ≡ c.log.records ++ Token Rest c.checkpoint.number ∷ []) (store_is : store ≡ map (option_map at_rest) c.store)
       (collecting : changed.collecting ≡ union c.changed.collecting c.changed.frozen) (frozen : changed.frozen ≡ no_keys) (calls_are : calls.items ≡ map (option_map restarted_call) c.calls.items) (active_is : active ≡ map phases.at_rest c.active)
-      (number : checkpoint.number ≡ c.checkpoint.number) (finished : checkpoint.finished ≡ c.checkpoint.finished) (kind : checkpoint.kind ≡ c.checkpoint.kind) (cursor : checkpoint.cursor ≡ c.checkpoint.cursor) (bound : checkpoint.bound ≡ c.checkpoint.bound) (waiting : checkpoint.waiting ≡ None) where
+      (number : checkpoint.number ≡ c.checkpoint.number) (finished : checkpoint.finished ≡ c.checkpoint.finished) (kind : checkpoint.kind ≡ c.checkpoint.kind) (cursor : checkpoint.cursor ≡ c.checkpoint.cursor) (bound : checkpoint.bound ≡ c.checkpoint.bound) (captured : checkpoint.captured.items ≡ []) (waiting : checkpoint.waiting ≡ None) where
     abbrev after_abandon : Inside A
     after_abandon = record c { log = log; store = store; changed = changed; calls = calls; active = active; phase = Rest; checkpoint = checkpoint }
 
@@ -118,8 +118,9 @@ module _ {A : Type 0} where
         ∙ ap (λ l. record (abandoned (view_of c)) { calls = l; checkpoint = (view_of after_abandon).checkpoint }) (shown_restarted c.calls.items)
         ∙ ap (λ k. record (abandoned (view_of c)) { checkpoint = record (view_of after_abandon).checkpoint { kind = k } }) kind
         ∙ ap (λ n. record (abandoned (view_of c)) { checkpoint = record (view_of after_abandon).checkpoint { kind = c.checkpoint.kind; cursor = n } }) cursor
-        ∙ ap (λ n. record (abandoned (view_of c)) { checkpoint = record (view_of c).checkpoint { bound = n; waiting = checkpoint.waiting } }) bound
-        ∙ ap (λ (o : Option Image). record (abandoned (view_of c)) { checkpoint = record (view_of c).checkpoint { waiting = o } }) waiting
+        ∙ ap (λ n. record (abandoned (view_of c)) { checkpoint = record (view_of c).checkpoint { bound = n; captured = checkpoint.captured.items; waiting = checkpoint.waiting } }) bound
+        ∙ ap (λ l. record (abandoned (view_of c)) { checkpoint = record (view_of c).checkpoint { captured = l; waiting = checkpoint.waiting } }) captured
+        ∙ ap (λ (o : Option Image). record (abandoned (view_of c)) { checkpoint = record (view_of c).checkpoint { captured = []; waiting = o } }) waiting
         ∙ ap abandoned same
 
   -- a checkpoint that may be abandoned has a cut, and isn't finished

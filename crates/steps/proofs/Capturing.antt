@@ -19,7 +19,7 @@ use Rattle.record_store.specs.Stores.{IsOnce, Slots, key_at}
 use Rattle.steps.proofs.SetAside.{aside_kept}
 use Rattle.steps.specs.Asides.{aside_at}
 use Rattle.steps.specs.Backwards.{at, before}
-use Rattle.steps.specs.Checkpointing.{AdvancesTo, CapturesAs, EndsAt, VisitsNext, visited}
+use Rattle.steps.specs.Checkpointing.{AdvancesTo, CapturesAs, EndsAt, VisitsNext, entered, visited}
 use Rattle.steps.specs.CoreFields.{IsCore, view_of, either}
 use Rattle.steps.specs.CoreViews.{CoreView}
 use Rattle.steps.specs.Edits.{KeepsSlots, given_at, given_of, kept_of, versions_in}
@@ -111,8 +111,12 @@ module _ {A : Type 0} (c : Inside A) (ok : IsCore c) where
 
     pub begin_view : (v : CoreView) → view_of c ≡ v → AdvancesTo Capture v (view_of after_begin)
     begin_view v same =
-        subst (λ (u : CoreView). AdvancesTo Capture u (view_of after_begin)) same
-        (bound, ends_at c.checkpoint.kind bound_is, ap (λ l. record (view_of after_begin) { log = l }) (entered_log c ok log Capture log_is))
+        subst (λ (u : CoreView). AdvancesTo Capture u (view_of after_begin)) same (
+          bound,
+          ends_at c.checkpoint.kind bound_is,
+          ap (λ l. record (view_of after_begin) { log = l }) (entered_log c ok log Capture log_is)
+              ∙ ap (λ l. record (entered (view_of c) Capture) { checkpoint = record (view_of c).checkpoint { cursor = 0; bound = bound; captured = l } }) empty_is,
+        )
 
 module _ {A : Type 0} (c : Inside A) (ok : IsCore c) (store : Slots) (kept : Vec (Bytes × Cell) A) (key : Option Bytes) where
   abbrev spot : ℕ → Option Bytes
@@ -267,7 +271,9 @@ module _ {A : Type 0} (c : Inside A) (ok : IsCore c) (store : Slots) (kept : Vec
           key = key;
           next = visits_next c.checkpoint.kind is.key_is;
           below = below;
-          rest = ap (λ n. record (view_of c) { slots = store; checkpoint = record (view_of c).checkpoint { cursor = n } }) one;
+          rest =
+              ap (λ n. record (view_of c) { slots = store; checkpoint = record (view_of c).checkpoint { cursor = n; captured = kept.items } }) one
+              ∙ ap (λ l. record (view_of c) { slots = store; checkpoint = record (view_of c).checkpoint { cursor = suc c.checkpoint.cursor; captured = l } }) is.kept_is;
           slots = is.keys;
           versions = is.versions;
         }
@@ -322,4 +328,6 @@ module _ {A : Type 0} where
     }
 
     pub roomy_scan_view : (v : CoreView) → view_of c ≡ v → (store : Slots) → store ≡ c.store → view_of (with_room store) ≡ v
-    roomy_scan_view v same store e = ap (λ (s : Slots). record (view_of c) { slots = s }) e ∙ same
+    roomy_scan_view v same store e =
+        ap (λ l. record (view_of c) { slots = store; checkpoint = record (view_of c).checkpoint { captured = l } }) same_items
+        ∙ ap (λ (s : Slots). record (view_of c) { slots = s }) e ∙ same

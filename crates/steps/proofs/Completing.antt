@@ -29,7 +29,7 @@ use Rattle.record_store.specs.Stores as store
 use Rattle.record_store.specs.Versions as stored
 use Rattle.record_store.specs.declared.limits.TheConstants.{RECORDS}
 use Rattle.steps.specs.Backwards.{Image, IsCut, at, before, last_finished, number_of, since}
-use Rattle.steps.specs.Checkpointing.{AdvancesTo, IsImageOf}
+use Rattle.steps.specs.Checkpointing.{AdvancesTo, IsImageOf, entered}
 use Rattle.steps.specs.CoreFields.{IsCore, view_of}
 use Rattle.steps.specs.CoreViews.{CoreView}
 use Rattle.steps.specs.CutImages.{IsCutOf, IsOfKind}
@@ -231,7 +231,7 @@ module _ {A : Type 0} (c : Inside A) (ok : IsCore c) (phase_is : c.phase ≡ Cap
       cut = made_cut;
     }
 
-  module _ (log : Log) (changed : ChangedSets) (empty : Vec (Bytes × Cell) A) (i : taken.Image) (scanned : nat_lt c.checkpoint.cursor c.checkpoint.bound ≡ false) (log_is : log.records ≡ c.log.records ++ Token Complete c.checkpoint.number ∷ []) (changed_is : changed ≡ record c.changed { frozen = no_keys }) (i_is : i ≡ made) where
+  module _ (log : Log) (changed : ChangedSets) (empty : Vec (Bytes × Cell) A) (i : taken.Image) (scanned : nat_lt c.checkpoint.cursor c.checkpoint.bound ≡ false) (log_is : log.records ≡ c.log.records ++ Token Complete c.checkpoint.number ∷ []) (changed_is : changed ≡ record c.changed { frozen = no_keys }) (i_is : i ≡ made) (empty_is : empty.items ≡ []) where
     abbrev after_complete : Inside A
     after_complete = record c { log = log; changed = changed; phase = Complete; checkpoint = record c.checkpoint { finished = c.checkpoint.number; captured = empty; waiting = Some i }; aside = Unknown }
 
@@ -276,5 +276,9 @@ module _ {A : Type 0} (c : Inside A) (ok : IsCore c) (phase_is : c.phase ≡ Cap
 
     pub complete_view : (v : CoreView) → view_of c ≡ v → AdvancesTo Complete v (view_of after_complete)
     complete_view v same =
-        subst (λ (u : CoreView). AdvancesTo Complete u (view_of after_complete)) same
-        (i, made_is all_visited i i_is, ap (λ l. record (view_of after_complete) { log = l }) (entered_log c ok log Complete log_is))
+        subst (λ (u : CoreView). AdvancesTo Complete u (view_of after_complete)) same (
+          i,
+          made_is all_visited i i_is,
+          ap (λ l. record (view_of after_complete) { log = l }) (entered_log c ok log Complete log_is)
+              ∙ ap (λ l. record (entered (view_of c) Complete) { checkpoint = record (view_of c).checkpoint { captured = l; waiting = Some i } }) empty_is,
+        )

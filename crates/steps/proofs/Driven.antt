@@ -38,14 +38,14 @@ abbrev pub begun_in : CoreView → List (Option Begun)
 begun_in v = map (option_map begun_of) v.calls
 
 -- a call that isn't refused is open
-open_step : (v : CoreView) (s : ℕ) → step_refusal v s ≡ None → (c : Underway) × (open_at v s ≡ Some c)
+pub open_step : (v : CoreView) (s : ℕ) → step_refusal v s ≡ None → (c : Underway) × (open_at v s ≡ Some c)
 open_step v s e = by (open_at v s) refl e
   where
     by : (o : Option Underway) → open_at v s ≡ o → unstepped v s o ≡ None → (c : Underway) × (open_at v s ≡ Some c)
     by None f e = absurd (cc)
     by (Some c) f e = (c, f)
 
-open_finish : (v : CoreView) (s : ℕ) → finish_refusal v s ≡ None → (c : Underway) × (open_at v s ≡ Some c)
+pub open_finish : (v : CoreView) (s : ℕ) → finish_refusal v s ≡ None → (c : Underway) × (open_at v s ≡ Some c)
 open_finish v s e = by (open_at v s) refl e
   where
     by : (o : Option Underway) → open_at v s ≡ o → unfinished v o ≡ None → (c : Underway) × (open_at v s ≡ Some c)

@@ -43,3 +43,4 @@ pub mod Reclaimed
 pub mod Moved
 pub mod Driven
 pub mod CutImages
+pub mod Visited

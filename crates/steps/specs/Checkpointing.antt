@@ -17,7 +17,7 @@ use Rattle.record_store.specs.ChangedSets.{KeySet, count, has, keys_of}
 use Rattle.record_store.specs.Stores.{at_rest, key_at}
 use Rattle.steps.specs.CoreViews.{CoreView, Underway}
 use Rattle.steps.specs.CutImages.{IsCutOf}
-use Rattle.steps.specs.Edits.{versions_in}
+use Rattle.steps.specs.Edits.{given_of, kept_of, versions_in}
 use Rattle.steps.specs.World.{Version, captured_at}
 use Rattle.steps.specs.declared.errors.AdvanceError.{AdvanceError}
 use Rattle.steps.specs.declared.errors.AdvanceError.TheVariants as advancing
@@ -66,12 +66,12 @@ abbrev pub visited : Option Bytes → Bytes → Option Version → Option Versio
 visited None q v = v
 visited (Some key) q v = cond (same q key) (option_map (λ v. captured_at v.available v) v) v
 
--- one place of a scan
+-- one place of a scan: the image keeps what the record there held at the cut
 pub record Visits (old new : CoreView) : Type 0 where
   pub key : Option Bytes
   pub next : VisitsNext old.checkpoint.kind old key
   pub below : old.checkpoint.cursor < old.checkpoint.bound
-  pub rest : new ≡ record old { slots = new.slots; checkpoint = record old.checkpoint { cursor = suc old.checkpoint.cursor } }
+  pub rest : new ≡ record old { slots = new.slots; checkpoint = record old.checkpoint { cursor = suc old.checkpoint.cursor; captured = old.checkpoint.captured ++ kept_of old.checkpoint.kind (given_of (versions_in old.slots) key) } }
   pub slots : (slot : ℕ) → key_at new.slots slot ≡ key_at old.slots slot
   pub versions : (q : Bytes) → versions_in new.slots q ≡ visited key q (versions_in old.slots q)
 
@@ -92,9 +92,9 @@ abbrev pub AdvancesTo : Phase → (old new : CoreView) → Type 0
 AdvancesTo Prepare old new = ⊥
 AdvancesTo Resolve old new = new ≡ entered old Resolve
 AdvancesTo Capture old new =
-    (b : ℕ) × EndsAt old.checkpoint.kind old b × (new ≡ record (entered old Capture) { checkpoint = record old.checkpoint { cursor = 0; bound = b } })
+    (b : ℕ) × EndsAt old.checkpoint.kind old b × (new ≡ record (entered old Capture) { checkpoint = record old.checkpoint { cursor = 0; bound = b; captured = [] } })
 AdvancesTo Complete old new =
-    (i : Image) × IsImageOf old i × (new ≡ record (entered old Complete) { checkpoint = record old.checkpoint { waiting = Some i } })
+    (i : Image) × IsImageOf old i × (new ≡ record (entered old Complete) { checkpoint = record old.checkpoint { captured = []; waiting = Some i } })
 AdvancesTo Rest old new = new ≡ rested (entered old Rest)
 
 -- how such a change is answered
@@ -110,6 +110,6 @@ taken v = record v { checkpoint = record v.checkpoint { waiting = None } }
 abbrev pub restarted : Underway → Underway
 restarted c = record c { start = Rest }
 
--- the checkpoint is given up
+-- the checkpoint is given up: nothing of it is left
 abbrev pub abandoned : CoreView → CoreView
-abandoned v = record (taken (rested (entered v Rest))) { calls = map (option_map restarted) v.calls }
+abandoned v = record (rested (entered v Rest)) { calls = map (option_map restarted) v.calls; checkpoint = record v.checkpoint { captured = []; waiting = None } }

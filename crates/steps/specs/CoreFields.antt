@@ -50,7 +50,7 @@ module _ {A : Type 0} where
   start_of o = option_map (λ c. c.start) o
 
   abbrev pub checkpoint_of : Checkpoint A → CheckpointView
-  checkpoint_of k = record { kind = k.kind; cursor = k.cursor; bound = k.bound; waiting = k.waiting }
+  checkpoint_of k = record { kind = k.kind; cursor = k.cursor; bound = k.bound; captured = k.captured.items; waiting = k.waiting }
 
   abbrev pub view_of : Inside A → CoreView
   view_of c =

@@ -30,11 +30,12 @@ pub record Underway : Type 0 where
   pub count : ℕ
 
 -- the checkpoint that runs, or the last one that ran: its kind, the place that its scan visits next and the one that ends
--- it, and its image, once it is finished and until it is taken
+-- it, what the scan was given for the image, key by key, and the image, once it is finished and until it is taken
 pub record CheckpointView : Type 0 where
   pub kind : Kind
   pub cursor : ℕ
   pub bound : ℕ
+  pub captured : List (Bytes × Cell)
   pub waiting : Option Image
 
 pub record CoreView : Type 0 where

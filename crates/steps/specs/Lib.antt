@@ -18,3 +18,4 @@ pub mod CoreFields
 pub mod Versions
 pub mod Schedules
 pub mod Drives
+pub mod Visits

@@ -27,7 +27,7 @@ opened_with vs (e ∷ es) = opened_with (with_opened vs e) es
 
 -- no checkpoint ran
 abbrev pub no_checkpoint : CheckpointView
-no_checkpoint = record { kind = Full; cursor = 0; bound = 0; waiting = None }
+no_checkpoint = record { kind = Full; cursor = 0; bound = 0; captured = []; waiting = None }
 
 -- no call is open, no checkpoint ran, the log is empty, and each key of the opening, and no other, has a record with its value
 pub record IsOpened (c : List Procedure) (i : Image) (v : CoreView) : Type 0 where

@@ -130,7 +130,7 @@ module _ {A : Type 0} where
   is_accepted (reply.Advance r) = is_ok r
   is_accepted (reply.Capture r) = is_ok r
   is_accepted (reply.TakeImage i) = is_some i
-  is_accepted (reply.Reclaim gone) = is_some gone
+  is_accepted (reply.Reclaim key) = is_some key
   is_accepted (reply.Abandon r) = is_ok r
 
   -- with what each session's open call was begun, where an event is accepted
@@ -171,7 +171,7 @@ module _ {A : Type 0} where
   answer_to (event.Finish s) (reply.Advance r) b = []
   answer_to (event.Finish s) (reply.Capture r) b = []
   answer_to (event.Finish s) (reply.TakeImage i) b = []
-  answer_to (event.Finish s) (reply.Reclaim gone) b = []
+  answer_to (event.Finish s) (reply.Reclaim key) b = []
   answer_to (event.Finish s) (reply.Abandon r) b = []
 
   -- the calls of the accepted finishes, in order, each at the place that its answer gives
@@ -192,7 +192,7 @@ module _ {A : Type 0} where
   image_in (reply.Capture r) = []
   image_in (reply.TakeImage None) = []
   image_in (reply.TakeImage (Some i)) = i ∷ []
-  image_in (reply.Reclaim gone) = []
+  image_in (reply.Reclaim key) = []
   image_in (reply.Abandon r) = []
 
   -- the images in the replies, in their order

@@ -1,0 +1,5 @@
+use Rattle.steps.proofs.Visited.{scans_whole}
+use Rattle.steps.proofs.laws.scans_law.Goals as goal
+
+pub returns : goal.returns
+returns g c = scans_whole _
