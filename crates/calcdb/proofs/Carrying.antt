@@ -1,9 +1,11 @@
 -- Events carried out one after another.
-use Rattle.std.proofs.Common.{◌≡◌, inl, inr, ℕ, suc, List, [], ◌∷◌, Result, Ok, Err, refl, ap, subst, slice_get}
+use Rattle.std.proofs.Common.{◌≡◌, inl, inr, ℕ, suc, List, [], ◌∷◌, Result, Ok, Err, refl, sym, ap, subst, slice_get}
+use Rattle.std.proofs.lemmas.List.{append-nil}
+use Rattle.image.specs.Images.{Image}
 use Rattle.procedure.specs.Bytes.{Bytes}
 use Rattle.procedure.specs.Procedures.{Procedure}
 use Rattle.steps.specs.CoreViews.{CoreView}
-use Rattle.steps.specs.Schedules.{FinishesAs, GivesUpAs, Handles, StepsAs}
+use Rattle.steps.specs.Schedules.{FinishesAs, GivesUpAs, Handles, StepsAs, image_in}
 use Rattle.steps.specs.declared.errors.BeginError.{BeginError}
 use Rattle.steps.specs.declared.errors.FinishError.{FinishError}
 use Rattle.steps.specs.declared.errors.NotActive.{NotActive}
@@ -20,69 +22,77 @@ use Rattle.calcdb.specs.declared.commands.Command.TheVariants as command
 use Rattle.calcdb.specs.declared.commands.NewCall.{NewCall}
 
 module _ {A : Type 0} where
-  pub ended : (s : ℕ) (old new : CoreView) (r : Result (Answer A) FinishError) (a : Answer A) → FinishesAs old new s r → r ≡ Ok a → Carried {A = A} (Ends s) old new (reply_text {A = A} (reply.Finish (Ok a)))
+  pub ended : (s : ℕ) (old new : CoreView) (r : Result (Answer A) FinishError) (a : Answer A) → FinishesAs old new s r → r ≡ Ok a → Carried {A = A} (Ends s) old new (reply_text {A = A} (reply.Finish (Ok a))) []
   ended s old new r a h is = record {
     events = event.Finish s ∷ [];
     replies = reply.Finish r ∷ [];
     handled = (new, (r, refl, h), refl);
     says = inl (a, refl, ap (λ x. reply.Finish x ∷ []) is, refl);
+    taken = refl;
   }
 
   pub end_refused : (s : ℕ) (old mid new : CoreView) (r : Result (Answer A) FinishError) (e : FinishError) (g : Result (Unit {0}) NotActive) → FinishesAs old mid s r → r ≡ Err e → GivesUpAs mid new s g →
-      Carried {A = A} (Ends s) old new (reply_text {A = A} (reply.Finish (Err e)))
+      Carried {A = A} (Ends s) old new (reply_text {A = A} (reply.Finish (Err e))) []
   end_refused s old mid new r e g h is up = record {
     events = event.Finish s ∷ event.GiveUp s ∷ [];
     replies = reply.Finish r ∷ reply.GiveUp g ∷ [];
     handled = (mid, (r, refl, h), (new, (g, refl, up), refl));
     says = inr (e, reply.GiveUp g, refl, ap (λ x. reply.Finish x ∷ reply.GiveUp g ∷ []) is, refl);
+    taken = refl;
   }
 
-  pub ran : (n s : ℕ) (old mid new : CoreView) (r : Result Stepped StepError) (text : Bytes) → StepsAs old mid s r → r ≡ Ok Ran → Carried {A = A} (GoesOn n s) mid new text → Carried {A = A} (GoesOn (suc n) s) old new text
-  ran n s old mid new r text h is c = record {
+  pub ran : (n s : ℕ) (old mid new : CoreView) (r : Result Stepped StepError) (text : Bytes) (images : List Image) → StepsAs old mid s r → r ≡ Ok Ran → Carried {A = A} (GoesOn n s) mid new text images → Carried {A = A} (GoesOn (suc n) s) old new text images
+  ran n s old mid new r text images h is c = record {
     events = event.Step s ∷ c.events;
     replies = reply.Step r ∷ c.replies;
     handled = (mid, (r, refl, h), c.handled);
     says = inl (c.events, c.replies, refl, ap (λ x. reply.Step x ∷ c.replies) is, c.says);
+    taken = c.taken;
   }
 
-  pub made_ready : (n s : ℕ) (old mid new : CoreView) (r : Result Stepped StepError) (text : Bytes) → StepsAs old mid s r → r ≡ Ok Ready → Carried {A = A} (Ends s) mid new text → Carried {A = A} (GoesOn (suc n) s) old new text
-  made_ready n s old mid new r text h is c = record {
+  pub made_ready : (n s : ℕ) (old mid new : CoreView) (r : Result Stepped StepError) (text : Bytes) (images : List Image) → StepsAs old mid s r → r ≡ Ok Ready → Carried {A = A} (Ends s) mid new text images → Carried {A = A} (GoesOn (suc n) s) old new text images
+  made_ready n s old mid new r text images h is c = record {
     events = event.Step s ∷ c.events;
     replies = reply.Step r ∷ c.replies;
     handled = (mid, (r, refl, h), c.handled);
     says = inr (inl (c.events, c.replies, refl, ap (λ x. reply.Step x ∷ c.replies) is, c.says));
+    taken = c.taken;
   }
 
   pub step_refused : (n s : ℕ) (old mid new : CoreView) (r : Result Stepped StepError) (e : StepError) (g : Result (Unit {0}) NotActive) → StepsAs old mid s r → r ≡ Err e → GivesUpAs mid new s g →
-      Carried {A = A} (GoesOn (suc n) s) old new (reply_text {A = A} (reply.Step (Err e)))
+      Carried {A = A} (GoesOn (suc n) s) old new (reply_text {A = A} (reply.Step (Err e))) []
   step_refused n s old mid new r e g h is up = record {
     events = event.Step s ∷ event.GiveUp s ∷ [];
     replies = reply.Step r ∷ reply.GiveUp g ∷ [];
     handled = (mid, (r, refl, h), (new, (g, refl, up), refl));
     says = inr (inr (e, reply.GiveUp g, refl, ap (λ x. reply.Step x ∷ reply.GiveUp g ∷ []) is, refl));
+    taken = refl;
   }
 
   pub call_refused : (catalog : List Procedure) (c : NewCall (List Bytes)) (b : Event A) (old new : CoreView) (r : Result (Unit {0}) BeginError) (e : BeginError) → Begins c b → Handles b old new (reply.Begin r) → r ≡ Err e →
-      Carried {A = A} (Calls catalog c) old new (reply_text {A = A} (reply.Begin (Err e)))
+      Carried {A = A} (Calls catalog c) old new (reply_text {A = A} (reply.Begin (Err e))) []
   call_refused catalog c b old new r e begins h is = record {
     events = b ∷ [];
     replies = reply.Begin r ∷ [];
     handled = (new, h, refl);
     says = inl (e, b, begins, refl, ap (λ x. reply.Begin x ∷ []) is, refl);
+    taken = refl;
   }
 
-  pub call_begun : (catalog : List Procedure) (c : NewCall (List Bytes)) (b : Event A) (old mid new : CoreView) (r : Result (Unit {0}) BeginError) (count : ℕ) (text : Bytes) → Begins c b → Handles b old mid (reply.Begin r) → r ≡ Ok tt →
-      count ≡ count_of (slice_get catalog c.procedure) → Carried {A = A} (GoesOn count c.session) mid new text → Carried {A = A} (Calls catalog c) old new text
-  call_begun catalog c b old mid new r count text begins h is counted on = record {
+  pub call_begun : (catalog : List Procedure) (c : NewCall (List Bytes)) (b : Event A) (old mid new : CoreView) (r : Result (Unit {0}) BeginError) (count : ℕ) (text : Bytes) (images : List Image) → Begins c b → Handles b old mid (reply.Begin r) → r ≡ Ok tt →
+      count ≡ count_of (slice_get catalog c.procedure) → Carried {A = A} (GoesOn count c.session) mid new text images → Carried {A = A} (Calls catalog c) old new text images
+  call_begun catalog c b old mid new r count text images begins h is counted on = record {
     events = b ∷ on.events;
     replies = reply.Begin r ∷ on.replies;
     handled = (mid, h, on.handled);
     says = inr (b, on.events, on.replies, begins, refl, ap (λ x. reply.Begin x ∷ on.replies) is, subst (λ n. GoesOn {A = A} n c.session on.events on.replies text) counted on.says);
+    taken = on.taken;
   }
 
   -- one event
-  pub one : (e : Event A) (old new : CoreView) (r : Reply A) → Handles e old new r → Carried {A = A} (Says e) old new (reply_text r)
-  one e old new r h = record { events = e ∷ []; replies = r ∷ []; handled = (new, h, refl); says = (r, refl, refl, refl) }
+  pub one : (e : Event A) (old new : CoreView) (r : Reply A) → Handles e old new r → Carried {A = A} (Says e) old new (reply_text r) (image_in r)
+  one e old new r h = record { events = e ∷ []; replies = r ∷ []; handled = (new, h, refl); says = (r, refl, refl, refl); taken = sym (append-nil (image_in r)) }
 
-  pub one_begin : (catalog : List Procedure) (c : NewCall (List Bytes)) (b : Event A) (old new : CoreView) (r : Reply A) → Begins c b → Handles b old new r → Carried {A = A} (Carries catalog (command.Begin c)) old new (reply_text r)
-  one_begin catalog c b old new r begins h = record { events = b ∷ []; replies = r ∷ []; handled = (new, h, refl); says = (b, begins, (r, refl, refl, refl)) }
+  -- by which a call begins
+  pub one_begin : (catalog : List Procedure) (c : NewCall (List Bytes)) (b : Event A) (old new : CoreView) (text : Bytes) (images : List Image) → Begins c b → Carried {A = A} (Says b) old new text images → Carried {A = A} (Carries catalog (command.Begin c)) old new text images
+  one_begin catalog c b old new text images begins h = record { events = h.events; replies = h.replies; handled = h.handled; says = (b, begins, h.says); taken = h.taken }

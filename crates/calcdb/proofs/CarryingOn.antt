@@ -7,11 +7,12 @@ use Rattle.procedure.specs.Bytes.{Bytes}
 use Rattle.procedure.specs.Procedures.{Procedure}
 use Rattle.phase.specs.declared.phases.Phase.{Phase}
 use Rattle.phase.specs.declared.phases.Phase.TheVariants.{Rest, Prepare, Resolve, Capture, Complete}
+use Rattle.image.specs.Images.{Image}
 use Rattle.image.specs.declared.images.Kind.{Kind}
 use Rattle.steps.specs.Checkpointing.{AdvancesTo, CapturesAs}
 use Rattle.steps.specs.CoreViews.{CoreView, Finishes, OfOpen, Steps, Underway, open_at}
 use Rattle.steps.specs.Refusals.{unfinished, unstepped}
-use Rattle.steps.specs.Schedules.{AbandonsAs, AdvancesAs, BeginsAs, FinishesAs, GivesUpAs, Handles, HandlesAll, StartsAs, StepsAs, VisitsAs}
+use Rattle.steps.specs.Schedules.{AbandonsAs, AdvancesAs, BeginsAs, FinishesAs, GivesUpAs, Handles, HandlesAll, StartsAs, StepsAs, VisitsAs, image_in, images_in}
 use Rattle.steps.specs.declared.captures.Captured.{Captured}
 use Rattle.steps.specs.declared.captures.Captured.TheVariants.{Slot, Done}
 use Rattle.steps.specs.declared.errors.AbandonError.{AbandonError}
@@ -107,7 +108,7 @@ module _ {A : Type 0} where
 
   -- ONE AFTER ANOTHER
 
-  handled_on : (es fs : List (Event A)) (old mid new : CoreView) (rs qs : List (Reply A)) → HandlesAll es old mid rs → HandlesAll fs mid new qs → HandlesAll (es ++ fs) old new (rs ++ qs)
+  pub handled_on : (es fs : List (Event A)) (old mid new : CoreView) (rs qs : List (Reply A)) → HandlesAll es old mid rs → HandlesAll fs mid new qs → HandlesAll (es ++ fs) old new (rs ++ qs)
   handled_on [] fs old mid new [] qs h k = subst (λ v. HandlesAll fs v new qs) (sym h) k
   handled_on [] fs old mid new (r ∷ rs) qs h k = absurd h
   handled_on (e ∷ es) fs old mid new [] qs h k = absurd h
@@ -142,19 +143,24 @@ module _ {A : Type 0} where
     carries_more catalog cs c es2 fs rs2 qs t2 u others h,
   )
 
-  pub catalog_kept : (P : List (Event A) → List (Reply A) → Bytes → Type 0) (old new : CoreView) (text : Bytes) → Carried {A = A} P old new text → new.catalog ≡ old.catalog
-  catalog_kept P old new text c = events_kept c.events old new c.replies c.handled
+  pub catalog_kept : (P : List (Event A) → List (Reply A) → Bytes → Type 0) (old new : CoreView) (text : Bytes) (images : List Image) → Carried {A = A} P old new text images → new.catalog ≡ old.catalog
+  catalog_kept P old new text images c = events_kept c.events old new c.replies c.handled
 
-  pub carried_none : (catalog : List Procedure) (v : CoreView) → Carried {A = A} (CarriesAll catalog []) v v []
-  carried_none catalog v = record { events = []; replies = []; handled = refl; says = (refl, refl, refl) }
+  pub carried_none : (catalog : List Procedure) (v : CoreView) → Carried {A = A} (CarriesAll catalog []) v v [] []
+  carried_none catalog v = record { events = []; replies = []; handled = refl; says = (refl, refl, refl); taken = refl }
 
-  pub carried_more : (catalog : List Procedure) (cs : List (Command (List Bytes))) (c : Command (List Bytes)) (old mid new : CoreView) (t u : Bytes) →
-      Carried {A = A} (CarriesAll catalog cs) old mid t → Carried {A = A} (Carries catalog c) mid new u → Carried {A = A} (CarriesAll catalog (cs ++ c ∷ [])) old new (t ++ u)
-  carried_more catalog cs c old mid new t u h k = record {
+  images_on : (rs qs : List (Reply A)) → images_in rs ++ images_in qs ≡ images_in (rs ++ qs)
+  images_on [] qs = refl
+  images_on (r ∷ rs) qs = append_assoc (image_in r) (images_in rs) (images_in qs) ∙ ap (λ (l : List Image). image_in r ++ l) (images_on rs qs)
+
+  pub carried_more : (catalog : List Procedure) (cs : List (Command (List Bytes))) (c : Command (List Bytes)) (old mid new : CoreView) (t u : Bytes) (is js : List Image) →
+      Carried {A = A} (CarriesAll catalog cs) old mid t is → Carried {A = A} (Carries catalog c) mid new u js → Carried {A = A} (CarriesAll catalog (cs ++ c ∷ [])) old new (t ++ u) (is ++ js)
+  carried_more catalog cs c old mid new t u is js h k = record {
     events = h.events ++ k.events;
     replies = h.replies ++ k.replies;
     handled = handled_on h.events k.events old mid new h.replies k.replies h.handled k.handled;
     says = carries_more catalog cs c h.events k.events h.replies k.replies t u h.says k.says;
+    taken = rw (h.taken, k.taken) (images_on h.replies k.replies);
   }
 
 -- behind what went out whole

@@ -57,10 +57,10 @@ same_reading (Some xs) (Some ys) source text is h at_end =
 
 module _ {A : Type 0} where
   -- in the words of the script
-  pub carried_script : (s : Script) (opening : Image) (core new : CoreView) (commands : List (Command (List Bytes))) (text : Bytes) → IsOpened s.catalog opening core → commands ≡ s.commands →
-      Carried {A = A} (CarriesAll core.catalog commands) core new text → Carried {A = A} (CarriesAll s.catalog s.commands) core new text
-  carried_script s opening core new commands text opened same h =
-      subst (λ k. Carried {A = A} (CarriesAll k s.commands) core new text) opened.catalog (subst (λ l. Carried {A = A} (CarriesAll core.catalog l) core new text) same h)
+  pub carried_script : (s : Script) (opening : Image) (core new : CoreView) (commands : List (Command (List Bytes))) (text : Bytes) (images : List Image) → IsOpened s.catalog opening core → commands ≡ s.commands →
+      Carried {A = A} (CarriesAll core.catalog commands) core new text images → Carried {A = A} (CarriesAll s.catalog s.commands) core new text images
+  carried_script s opening core new commands text images opened same h =
+      subst (λ k. Carried {A = A} (CarriesAll k s.commands) core new text images) opened.catalog (subst (λ l. Carried {A = A} (CarriesAll core.catalog l) core new text images) same h)
 
 pub run_script_for : (A : Type 0) (s : Script) (opening : Image) (core new : CoreView) (commands : List (Command (List Bytes))) (text : Bytes) → IsOpened s.catalog opening core → commands ≡ s.commands →
     HasRun A core.catalog commands core new text → HasRun A s.catalog s.commands core new text

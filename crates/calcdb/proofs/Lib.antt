@@ -8,4 +8,5 @@ pub mod Pieces
 pub mod Printed
 pub mod Readers
 pub mod SaidLines
+pub mod Scanning
 pub mod WordValues

@@ -1,6 +1,8 @@
 -- Lines of commands.
 use Rattle.std.specs.Prelude.{ℕ, ◌-◌, ◌^◌, Bool, ◌&&◌, ◌||◌, if◌then◌else◌, nat_le, codes, List, [], ◌∷◌, length, slice_index_or, Option, Some, None}
 use Rattle.std.specs.FinMap as map
+use Rattle.image.specs.declared.images.Kind.{Kind}
+use Rattle.image.specs.declared.images.Kind.TheVariants.{Full, Partial}
 use Rattle.procedure.specs.Bytes.{Bytes}
 use Rattle.procedure.specs.Table.{KeyMap}
 use Rattle.calcdb.specs.Reads.{◌>>=◌}
@@ -72,6 +74,21 @@ session_of ws = do
   _ ← no_word s.1
   Some s.0
 
+abbrev pub kind_named : Bytes → Option Kind
+kind_named w = if is_word w (codes "full") then Some Full else if is_word w (codes "partial") then Some Partial else None
+
+-- `full` or `partial` alone
+unfoldable pub kind_of : List Bytes → Option Kind
+kind_of ws = do
+  w ← first_word ws
+  k ← kind_named w.0
+  _ ← no_word w.1
+  Some k
+
+-- a command without a word behind its name
+abbrev pub alone : Command (List Bytes) → List Bytes → Option (Command (List Bytes))
+alone c ws = no_word ws >>= λ x. Some c
+
 abbrev pub command_name : Bytes → Option CommandName
 command_name w =
     if is_word w (codes "begin") then Some named.Begin
@@ -79,6 +96,13 @@ command_name w =
     else if is_word w (codes "finish") then Some named.Finish
     else if is_word w (codes "giveup") then Some named.GiveUp
     else if is_word w (codes "call") then Some named.Call
+    else if is_word w (codes "start") then Some named.Start
+    else if is_word w (codes "advance") then Some named.Advance
+    else if is_word w (codes "capture") then Some named.Capture
+    else if is_word w (codes "scan") then Some named.Scan
+    else if is_word w (codes "image") then Some named.TakeImage
+    else if is_word w (codes "reclaim") then Some named.Reclaim
+    else if is_word w (codes "abandon") then Some named.Abandon
     else None
 
 abbrev pub command_at : List Bytes → Option (CommandName × List Bytes)
@@ -97,4 +121,11 @@ command_of names ws = do
     | named.Finish ↦ (session_of c.1 >>= λ s. Some (command.Finish s))
     | named.GiveUp ↦ (session_of c.1 >>= λ s. Some (command.GiveUp s))
     | named.Call ↦ (call_of names c.1 >>= λ n. Some (command.Call n))
+    | named.Start ↦ (kind_of c.1 >>= λ k. Some (command.Start k))
+    | named.Advance ↦ alone command.Advance c.1
+    | named.Capture ↦ alone command.Capture c.1
+    | named.Scan ↦ alone command.Scan c.1
+    | named.TakeImage ↦ alone command.TakeImage c.1
+    | named.Reclaim ↦ alone command.Reclaim c.1
+    | named.Abandon ↦ alone command.Abandon c.1
   ]

@@ -6,7 +6,7 @@ use Rattle.image.specs.Images.{Image}
 use Rattle.steps.specs.CoreViews.{CoreView}
 use Rattle.steps.specs.Openings.{IsOpened, is_opening}
 use Rattle.calcdb.specs.Reasons.{reason_text}
-use Rattle.calcdb.specs.Runs.{Carried, CarriesAll, HasRun, Sent}
+use Rattle.calcdb.specs.Runs.{Carried, CarriesAll, HasRun, Images, Sent}
 use Rattle.calcdb.specs.Scripts.{Script}
 use Rattle.calcdb.specs.Streams.{IsBegun}
 use Rattle.calcdb.specs.declared.faults.Fault.{Fault}
@@ -26,13 +26,13 @@ fault_text fault.NoMemory = []
 
 module _ (A : Type 0) where
   -- the opening is one, the text is a script, and all of its commands were carried out on a core that was opened so
-  pub record RunsTo (says : Result Script ScriptFault) (opening : Image) (core : CoreView) (text : Bytes) : Type 0 where
+  pub record RunsTo (says : Result Script ScriptFault) (opening : Image) (core : CoreView) (text : Bytes) (images : Images) : Type 0 where
     pub lawful : is_opening opening ≡ true
     pub script : Script
     pub reads : says ≡ Ok script
     pub first : CoreView
     pub opened : IsOpened script.catalog opening first
-    pub carried : Carried {A = A} (CarriesAll script.catalog script.commands) first core text
+    pub carried : Carried {A = A} (CarriesAll script.catalog script.commands) first core text images
 
   -- some of them were, from the front on
   pub record RunsFor (says : Result Script ScriptFault) (opening : Image) (text : Bytes) : Type 0 where

@@ -1,12 +1,15 @@
 -- What a script's commands do to a core, and what is printed of it.
-use Rattle.std.specs.Prelude.{◌≡◌, ◌⊎◌, ℕ, zero, suc, codes, List, [], ◌∷◌, ◌++◌, length, map, Option, Some, None, Result, Ok, Err, slice_get}
+use Rattle.std.specs.Prelude.{◌≡◌, ◌⊎◌, ℕ, zero, suc, codes, List, [], ◌∷◌, ◌++◌, length, map, replicate, Option, Some, None, Result, Ok, Err, slice_get}
 use Rattle.procedure.specs.Bytes.{Bytes}
 use Rattle.procedure.specs.Procedures.{Procedure}
 use Rattle.steps.specs.CoreViews.{CoreView}
 use Rattle.phase.specs.Phases.{phase_text}
 use Rattle.steps.specs.Refusals.{abandon_error_text, advance_error_text, begin_error_text, capture_error_text, finish_error_text, start_error_text, step_error_text}
+use Rattle.image.specs.Images.{Image}
+use Rattle.steps.specs.declared.captures.Captured.{Captured}
 use Rattle.steps.specs.declared.captures.Captured.TheVariants.{Slot, Done}
-use Rattle.steps.specs.Schedules.{HandlesAll}
+use Rattle.steps.specs.declared.errors.CaptureError.{CaptureError}
+use Rattle.steps.specs.Schedules.{HandlesAll, image_in, images_in}
 use Rattle.steps.specs.declared.schedules.Event.{Event}
 use Rattle.steps.specs.declared.schedules.Event.TheVariants as event
 use Rattle.steps.specs.declared.schedules.Reply.{Reply}
@@ -25,6 +28,12 @@ use Rattle.calcdb.specs.Output.{answer_text, image_text, key_text, numbered_text
 use Rattle.calcdb.specs.declared.commands.Command.{Command}
 use Rattle.calcdb.specs.declared.commands.Command.TheVariants as command
 use Rattle.calcdb.specs.declared.commands.NewCall.{NewCall}
+use Rattle.calcdb.specs.declared.run.Shown.{Shown}
+use Rattle.calcdb.specs.declared.run.Shown.TheVariants as shown
+
+-- images, in the order in which they were taken
+abbrev pub Images : Type 0
+Images = List Image
 
 -- how many instructions a procedure has
 abbrev pub count_of : Option Procedure → ℕ
@@ -34,6 +43,12 @@ count_of (Some p) = length p.code
 abbrev pub stepped_text : Stepped → Bytes
 stepped_text Ran = codes "ran\n"
 stepped_text Ready = codes "ready\n"
+
+-- the end of a scan, after so many visited places: none is left, and that number is printed, or a visit is refused
+abbrev pub EndsScan : ℕ → Result Captured CaptureError → Bytes → Type 0
+EndsScan n (Ok Slot) text = ⊥
+EndsScan n (Ok Done) text = text ≡ numbered_text (codes "slots ") n
+EndsScan n (Err e) text = text ≡ refused_text (capture_error_text e)
 
 module _ {A : Type 0} where
   -- what is printed of one reply
@@ -59,6 +74,16 @@ module _ {A : Type 0} where
   reply_text (reply.Reclaim (Some key)) = key_text key
   reply_text (reply.Abandon (Ok n)) = numbered_text (codes "abandoned ") n
   reply_text (reply.Abandon (Err e)) = refused_text (abandon_error_text e)
+
+  -- what is printed of a command
+  abbrev pub shown_text : Shown A → Bytes
+  shown_text (shown.Reply r) = reply_text r
+  shown_text (shown.Scanned n) = numbered_text (codes "slots ") n
+
+  -- the image that a command took, if it took one
+  abbrev pub images_shown : Shown A → Images
+  images_shown (shown.Reply r) = image_in r
+  images_shown (shown.Scanned n) = []
 
   -- the event by which a call begins
   abbrev pub Begins : NewCall (List Bytes) → Event A → Type 0
@@ -97,6 +122,11 @@ module _ {A : Type 0} where
   abbrev pub Says : Event A → List (Event A) → List (Reply A) → Bytes → Type 0
   Says e es rs text = (r : Reply A) × (es ≡ e ∷ []) × (rs ≡ r ∷ []) × (text ≡ reply_text r)
 
+  -- captures, each of which visits a place but for the last one
+  abbrev pub Scans : List (Event A) → List (Reply A) → Bytes → Type 0
+  Scans es rs text =
+      (n : ℕ) × (last : Result Captured CaptureError) × (es ≡ replicate n event.Capture ++ event.Capture ∷ []) × (rs ≡ replicate n (reply.Capture (Ok Slot)) ++ reply.Capture last ∷ []) × EndsScan n last text
+
   -- the events that a command is, with their replies, and what is printed of them
   abbrev pub Carries : List Procedure → Command (List Bytes) → List (Event A) → List (Reply A) → Bytes → Type 0
   Carries catalog (command.Begin c) es rs text = (b : Event A) × Begins c b × Says b es rs text
@@ -104,6 +134,13 @@ module _ {A : Type 0} where
   Carries catalog (command.Finish s) es rs text = Says (event.Finish s) es rs text
   Carries catalog (command.GiveUp s) es rs text = Says (event.GiveUp s) es rs text
   Carries catalog (command.Call c) es rs text = Calls catalog c es rs text
+  Carries catalog (command.Start k) es rs text = Says (event.Start k) es rs text
+  Carries catalog command.Advance es rs text = Says event.Advance es rs text
+  Carries catalog command.Capture es rs text = Says event.Capture es rs text
+  Carries catalog command.Scan es rs text = Scans es rs text
+  Carries catalog command.TakeImage es rs text = Says event.TakeImage es rs text
+  Carries catalog command.Reclaim es rs text = Says event.Reclaim es rs text
+  Carries catalog command.Abandon es rs text = Says event.Abandon es rs text
 
   -- the commands, one after another
   abbrev pub CarriesAll : List Procedure → List (Command (List Bytes)) → List (Event A) → List (Reply A) → Bytes → Type 0
@@ -111,12 +148,13 @@ module _ {A : Type 0} where
   CarriesAll catalog (c ∷ cs) es rs text =
       (fs : List (Event A)) × (gs : List (Event A)) × (qs : List (Reply A)) × (ps : List (Reply A)) × (first : Bytes) × (others : Bytes) × (es ≡ fs ++ gs) × (rs ≡ qs ++ ps) × (text ≡ first ++ others) × Carries catalog c fs qs first × CarriesAll catalog cs gs ps others
 
-  -- events that a core carried out, and what is printed of them
-  pub record Carried (P : List (Event A) → List (Reply A) → Bytes → Type 0) (old new : CoreView) (text : Bytes) : Type 0 where
+  -- events that a core carried out, what is printed of them, and the images that they took, in order
+  pub record Carried (P : List (Event A) → List (Reply A) → Bytes → Type 0) (old new : CoreView) (text : Bytes) (images : Images) : Type 0 where
     pub events : List (Event A)
     pub replies : List (Reply A)
     pub handled : HandlesAll events old new replies
     pub says : P events replies text
+    pub taken : images ≡ images_in replies
 
 module _ (A : Type 0) where
   -- some of the commands from the front on, carried out
@@ -124,7 +162,8 @@ module _ (A : Type 0) where
     pub front : List (Command (List Bytes))
     pub left : List (Command (List Bytes))
     pub parts : commands ≡ front ++ left
-    pub carried : Carried {A = A} (CarriesAll catalog front) old new text
+    pub images : Images
+    pub carried : Carried {A = A} (CarriesAll catalog front) old new text images
 
 -- what went out, by how the writing ended: all of the text, or a beginning of it
 abbrev pub Sent : Result (Unit {0}) Fault → Option Bytes → Option Bytes → Bytes → Type 0

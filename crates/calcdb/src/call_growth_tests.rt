@@ -4,7 +4,7 @@
 use crate::commands::{Arguments, Command};
 use crate::growth_tests::{MOST, Row, answers_of, commands_of};
 use crate::growths::Fallible;
-use crate::run::{carry_out, push_reply};
+use crate::run::{carry_out, push_shown};
 use crate::scripts::{Script, read_script};
 use crate::tests::script_of;
 use image::{Entry, Image, Kind};
@@ -77,10 +77,10 @@ fn carried<A: Allocator + Clone>(
     lines: &mut Vec<u8, A>,
 ) -> Result<bool, NoMemory> {
     heap.arm(refused);
-    let reply = carry_out(core, command);
+    let shown = carry_out(core, command);
     let met = heap.asked() >= refused;
     heap.arm(0);
-    push_reply(lines, &reply)?;
+    push_shown(lines, &shown)?;
     Ok(met)
 }
 

@@ -9,6 +9,7 @@ use crate::instructions::is_word;
 use crate::lines::{end_of, first_word, word_at};
 use crate::unread::Unread;
 use crate::values::{decimal_of, value_of};
+use image::Kind;
 use procedure::{Key, KeyMap};
 use std::alloc::Allocator;
 use std::marker::Model;
@@ -64,6 +65,20 @@ pub(crate) enum Command<V> {
     GiveUp(u16),
     /// The call begins, executes its instructions and is answered; or is given up at a refusal.
     Call(NewCall<V>),
+    /// A checkpoint of this kind begins.
+    Start(Kind),
+    /// The checkpoint enters its next phase.
+    Advance,
+    /// The scan of the checkpoint visits one place.
+    Capture,
+    /// The scan visits all places that are left.
+    Scan,
+    /// The finished image is taken.
+    TakeImage,
+    /// A dead record goes.
+    Reclaim,
+    /// The checkpoint is given up.
+    Abandon,
 }
 
 /// The first word of a command.
@@ -74,6 +89,13 @@ pub(crate) enum CommandName {
     Finish,
     GiveUp,
     Call,
+    Start,
+    Advance,
+    Capture,
+    Scan,
+    TakeImage,
+    Reclaim,
+    Abandon,
 }
 
 /// The number of each procedure that is defined, by its name.
@@ -184,6 +206,40 @@ fn session_of(line: &[u8]) -> Result<u16, Unread>
     Ok(session)
 }
 
+fn kind_named(word: &[u8]) -> Result<Kind, Unread>
+    ensures { Gives (λ k. k) result (spec.kind_named word.now) }
+{
+    if is_word(word, b"full") {
+        Ok(Kind::Full)
+    } else if is_word(word, b"partial") {
+        Ok(Kind::Partial)
+    } else {
+        Err(Unread::Faulty)
+    }
+}
+
+/// A kind of checkpoint alone.
+#[tactic(auto, unfolding(crate::specs::Commands::kind_of))]
+fn kind_of(line: &[u8]) -> Result<Kind, Unread>
+    ensures { Gives (λ k. k) result (spec.kind_of (words line.now)) }
+{
+    let (word, rest) = word_at(line)?;
+    let kind = kind_named(word)?;
+    end_of(rest)?;
+    Ok(kind)
+}
+
+/// A command without a word behind its name.
+fn alone<A: Allocator>(
+    command: Command<Arguments<A>>,
+    line: &[u8],
+) -> Result<Command<Arguments<A>>, Unread>
+    ensures { Gives (λ c. c) result (spec.alone command (words line.now)) }
+{
+    end_of(line)?;
+    Ok(command)
+}
+
 fn command_name(word: &[u8]) -> Result<CommandName, Unread>
     ensures { Gives (λ c. c) result (spec.command_name word.now) }
 {
@@ -197,6 +253,20 @@ fn command_name(word: &[u8]) -> Result<CommandName, Unread>
         Ok(CommandName::GiveUp)
     } else if is_word(word, b"call") {
         Ok(CommandName::Call)
+    } else if is_word(word, b"start") {
+        Ok(CommandName::Start)
+    } else if is_word(word, b"advance") {
+        Ok(CommandName::Advance)
+    } else if is_word(word, b"capture") {
+        Ok(CommandName::Capture)
+    } else if is_word(word, b"scan") {
+        Ok(CommandName::Scan)
+    } else if is_word(word, b"image") {
+        Ok(CommandName::TakeImage)
+    } else if is_word(word, b"reclaim") {
+        Ok(CommandName::Reclaim)
+    } else if is_word(word, b"abandon") {
+        Ok(CommandName::Abandon)
     } else {
         Err(Unread::Faulty)
     }
@@ -225,5 +295,12 @@ pub(crate) fn command_of<A: Allocator + Clone>(
         CommandName::Finish => Ok(Command::Finish(session_of(rest)?)),
         CommandName::GiveUp => Ok(Command::GiveUp(session_of(rest)?)),
         CommandName::Call => Ok(Command::Call(call_of(alloc, names, rest)?)),
+        CommandName::Start => Ok(Command::Start(kind_of(rest)?)),
+        CommandName::Advance => alone(Command::Advance, rest),
+        CommandName::Capture => alone(Command::Capture, rest),
+        CommandName::Scan => alone(Command::Scan, rest),
+        CommandName::TakeImage => alone(Command::TakeImage, rest),
+        CommandName::Reclaim => alone(Command::Reclaim, rest),
+        CommandName::Abandon => alone(Command::Abandon, rest),
     }
 }

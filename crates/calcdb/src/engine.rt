@@ -1,6 +1,6 @@
 //! A run of a script, from its reader to its writer.
 
-ghost use Rattle.std.specs.Prelude.{◌≡◌, ◌⊎◌, ◌++◌, [], IfErr, IfOk, OnErr, OnOk, Some, true, Ok};
+ghost use Rattle.std.specs.Prelude.{◌≡◌, ◌⊎◌, ◌++◌, IfErr, IfOk, OnErr, OnOk, Some, true, Ok};
 ghost use Rattle.std.specs.Io.KnownBytes.{Appends};
 ghost use Rattle.procedure.specs.Bytes.{Bytes};
 ghost use Rattle.steps.specs.Openings.{IsOpened, is_opening};
@@ -107,8 +107,7 @@ fn run_opened<W: Write, A: Allocator + Copy>(
     opening: Image<A>,
 ) -> Result<Ran<A>, Fault>
     requires { is_opening opening ≡ true }
-    ensures ok { IfOk result (λ r. (first : CoreView) × (text : Bytes) × IsOpened script.catalog opening first × Carried {A = A} (CarriesAll script.catalog script.commands) first r.core text × Appends (W.contents writer.old) (W.contents writer.new) text) }
-    ensures images { IfOk result (λ r. r.images.items ≡ []) }
+    ensures ok { IfOk result (λ r. (first : CoreView) × (text : Bytes) × IsOpened script.catalog opening first × Carried {A = A} (CarriesAll script.catalog script.commands) first r.core text r.images.items × Appends (W.contents writer.old) (W.contents writer.new) text) }
     ensures err { IfErr result (λ f. StopsAs A script opening (W.contents writer.old) (W.contents writer.new) f) }
 {
     let Script { catalog, commands } = script;
@@ -118,10 +117,7 @@ fn run_opened<W: Write, A: Allocator + Copy>(
         Err(_) => return Err(Fault::NoMemory),
     };
     match run_commands(alloc, &mut core, writer, commands.into_vec()) {
-        Ok(()) => Ok(Ran {
-            core,
-            images: Vec::new(alloc),
-        }),
+        Ok(images) => Ok(Ran { core, images }),
         Err(fault) => Err(fault),
     }
 }
@@ -134,8 +130,7 @@ fn run_text<W: Write, A: Allocator + Copy>(
     opening: Image<A>,
 ) -> Result<Ran<A>, Fault>
     requires { is_opening opening ≡ true }
-    ensures run { IfOk result (λ r. (out : Bytes) × RunsTo A (script_of text.now) opening r.core out × Appends (W.contents writer.old) (W.contents writer.new) out) }
-    ensures images { IfOk result (λ r. r.images.items ≡ []) }
+    ensures run { IfOk result (λ r. (out : Bytes) × RunsTo A (script_of text.now) opening r.core out r.images.items × Appends (W.contents writer.old) (W.contents writer.new) out) }
     ensures fault { IfErr result (λ f. EndsAs A (script_of text.now) opening (W.contents writer.old) (W.contents writer.new) f) }
 {
     match read_script(alloc, text) {
@@ -154,9 +149,9 @@ pub(crate) fn run_script<R: Read, W: Write, A: Allocator + Copy>(
     writer: &mut W,
     opening: Image<A>,
 ) -> Result<Ran<A>, Fault>
-    // Where the reader tells its bytes: all of the script was carried out, and its answers written.
-    ensures run { IfOk result (λ r. (source : Bytes) → R.remaining reader.old ≡ Some source → (text : Bytes) × RunsTo A (script_of source) opening r.core text × Appends (W.contents writer.old) (W.contents writer.new) text) }
-    ensures images { IfOk result (λ r. r.images.items ≡ []) }
+    // Where the reader tells its bytes: all of the script was carried out, its answers written, and the images
+    // are those that it took.
+    ensures run { IfOk result (λ r. (source : Bytes) → R.remaining reader.old ≡ Some source → (text : Bytes) × RunsTo A (script_of source) opening r.core text r.images.items × Appends (W.contents writer.old) (W.contents writer.new) text) }
     // And else the one line of the fault, or a beginning of the answers.
     ensures fault { IfErr result (λ f. (source : Bytes) → R.remaining reader.old ≡ Some source → EndsAs A (script_of source) opening (W.contents writer.old) (W.contents writer.new) f) }
 {

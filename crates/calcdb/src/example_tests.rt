@@ -55,6 +55,76 @@ place 6 committed #50
 ",
 );
 
+/// Two checkpoints beside calls.
+const CHECKPOINT: (&str, &str) = (
+    "\
+; Two checkpoints beside calls. The call of session 1 finishes after the cut of the first, so its write
+; isn't in the full image, and it holds the phase until then. The partial image has what was written
+; between the two cuts. Then the record of the key that is gone may be reclaimed.
+
+proc set 2
+put $0 $1
+end
+
+proc del 1
+delete $0
+end
+
+call 0 1 set 'a #1
+call 0 2 set 'b #2
+start full
+begin 1 1 set 'a #3
+step 1
+advance
+advance
+finish 1
+advance
+scan
+advance
+image
+advance
+call 0 3 del 'b
+reclaim
+start partial
+advance
+advance
+scan
+advance
+image
+advance
+reclaim
+",
+    "\
+place 0 committed
+place 1 committed
+checkpoint 1
+ok
+ready
+phase resolve
+refused still active
+place 4 committed
+phase capture
+slots 2
+phase complete
+image full 1 base 1 place 3 count 2
+'a #1
+'b #2
+phase rest
+place 8 committed
+none
+checkpoint 2
+phase resolve
+phase capture
+slots 2
+phase complete
+image partial 2 base 1 place 10 count 2
+'a #3
+'b gone
+phase rest
+key 'b
+",
+);
+
 /// Two sessions in conflict.
 const CONFLICT: (&str, &str) = (
     "\
@@ -145,7 +215,7 @@ place 2 committed #2
 
 #[test]
 fn examples(rt: HostRuntime) -> Result<(), Fail> {
-    for (script, answers) in [BANK, CONFLICT, UPGRADE] {
+    for (script, answers) in [BANK, CHECKPOINT, CONFLICT, UPGRADE] {
         check_script(&rt, rt.alloc(), script, answers)?;
     }
     Ok(())

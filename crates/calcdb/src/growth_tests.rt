@@ -16,8 +16,8 @@ pub(crate) const MOST: u64 = 10_000;
 
 const REFUSED: &[u8] = b"refused no memory";
 
-/// Scripts of two and of three sessions, of which the second has calls in steps.
-const SCRIPTS: [Row; 2] = [
+/// Scripts of two and of three sessions, of which the second has calls in steps, and one with a checkpoint.
+const SCRIPTS: [Row; 3] = [
     &[
         ("call 0 1 new 'a #5", "place 0 committed"),
         ("call 0 2 dep 'a #3", "place 1 committed #5"),
@@ -34,6 +34,16 @@ const SCRIPTS: [Row; 2] = [
         ("giveup 1", "ok"),
         ("step 0", "ready"),
         ("finish 0", "place 1 committed #1"),
+    ],
+    &[
+        ("call 0 1 set 'a #1", "place 0 committed"),
+        ("start partial", "checkpoint 1"),
+        ("advance", "phase resolve"),
+        ("advance", "phase capture"),
+        ("scan", "slots 1"),
+        ("advance", "phase complete"),
+        ("advance", "phase rest"),
+        ("image", "image partial 1 base 0 place 2 count 1\n'a #1"),
     ],
 ];
 

@@ -1,4 +1,4 @@
-//! The program `calcdb`: it runs scripts of calls on an engine's core.
+//! The program `calcdb`: it runs scripts of calls and checkpoints on an engine's core.
 //!
 //! The definitions are in `specs/`: the text of a script (`Lines`, `Values`, `Instructions`,
 //! `Commands`, `Scripts`), the text of answers (`Output`, `Reasons`), what commands do to a core
@@ -7,6 +7,8 @@
 
 #[cfg(test)]
 mod call_growth_tests;
+#[cfg(test)]
+mod checkpoint_tests;
 mod command_line;
 mod commands;
 #[cfg(test)]

@@ -1,21 +1,23 @@
 //! The commands of a script, carried out on a core.
 
-ghost use Rattle.std.specs.Prelude.{◌≡◌, ◌++◌, OnErr, OnOk, codes, slice_get};
+ghost use Rattle.std.specs.Prelude.{◌≡◌, ◌≤◌, ◌+◌, ◌++◌, IfErr, IfOk, OnOk, Err, codes, slice_get, vec_capacity, vec_len};
 ghost use Rattle.std.specs.Io.KnownBytes.{Appends};
 ghost use Rattle.procedure.specs.Bytes.{Bytes};
+ghost use Rattle.steps.specs.Schedules.{image_in};
 ghost use Rattle.phase.specs.Phases.{phase_text};
 ghost use Rattle.steps.specs.Refusals.{abandon_error_text, advance_error_text, begin_error_text, capture_error_text, finish_error_text, start_error_text, step_error_text};
-ghost use Rattle.calcdb.specs.Runs.{Calls, Carried, Carries, CarriesAll, Ends, GoesOn, HasRun, Sent, count_of, reply_text};
+ghost use Rattle.calcdb.specs.Runs.{Calls, Carried, Carries, CarriesAll, Ends, GoesOn, HasRun, Images, Says, Scans, Sent, count_of, images_shown, reply_text, shown_text};
 
 use crate::commands::{Arguments, Command, NewCall};
 use crate::faults::Fault;
 use crate::output::{push_answer, push_image, push_key, push_numbered, push_refusal, push_text};
 use crate::streams::{WriteError, write_out};
+use image::Image;
 use phase::Phase;
 use procedure::NoMemory;
 use std::alloc::Allocator;
 use std::io::Write;
-use steps::schedules::Reply;
+use steps::schedules::{Event, Reply};
 use steps::{
     AbandonError, AdvanceError, BeginError, CaptureError, Captured, Core, FinishError, NotActive,
     StartError, StepError, Stepped,
@@ -33,7 +35,7 @@ fn count_of<A: Allocator>(core: &Core<A>, procedure: u16) -> usize
 
 /// Answers a session's call; it is given up where that is refused.
 fn end_call<A: Allocator + Clone>(core: &mut Core<A>, session: u16) -> Reply<A>
-    ensures { Carried {A = A} (Ends session) core.old core.new (reply_text result) }
+    ensures { Carried {A = A} (Ends session) core.old core.new (reply_text result) (image_in result) }
 {
     match core.finish(session) {
         Ok(answer) => Reply::Finish(Ok(answer)),
@@ -47,7 +49,7 @@ fn end_call<A: Allocator + Clone>(core: &mut Core<A>, session: u16) -> Reply<A>
 /// Steps of a session's call until it is ready, so many at most, and its end; it is given up where a
 /// step is refused.
 fn go_on<A: Allocator + Clone>(core: &mut Core<A>, session: u16, count: usize) -> Reply<A>
-    ensures { Carried {A = A} (GoesOn count session) core.old core.new (reply_text result) }
+    ensures { Carried {A = A} (GoesOn count session) core.old core.new (reply_text result) (image_in result) }
 {
     for _ in 0..count {
         match core.step(session) {
@@ -64,7 +66,7 @@ fn go_on<A: Allocator + Clone>(core: &mut Core<A>, session: u16, count: usize) -
 
 /// Begins a call, executes it and answers it.
 fn run_call<A: Allocator + Clone>(core: &mut Core<A>, call: NewCall<Arguments<A>>) -> Reply<A>
-    ensures { Carried {A = A} (Calls core.old.catalog call) core.old core.new (reply_text result) }
+    ensures { Carried {A = A} (Calls core.old.catalog call) core.old core.new (reply_text result) (image_in result) }
 {
     let NewCall {
         session,
@@ -79,12 +81,42 @@ fn run_call<A: Allocator + Clone>(core: &mut Core<A>, call: NewCall<Arguments<A>
     }
 }
 
-/// Carries out a command, and hands on the reply that is printed.
+/// What is printed of a command, and the image that it took.
+#[derive(Debug, Drop)]
+pub(crate) enum Shown<A: Allocator> {
+    /// The reply of its event, or of the one that ended it.
+    Reply(Reply<A>),
+    /// How many places it visited of a scan that is over.
+    Scanned(usize),
+}
+
+/// Captures until no place is left, or one is refused.
+fn scan<A: Allocator + Clone>(core: &mut Core<A>) -> Shown<A>
+    ensures { Carried {A = A} Scans core.old core.new (shown_text result) (images_shown result) }
+{
+    let before = core.scanned();
+    loop {
+        match core.capture() {
+            Ok(Captured::Slot) => {}
+            Ok(Captured::Done) => return Shown::Scanned(core.scanned() - before),
+            Err(refused) => return Shown::Reply(Reply::Capture(Err(refused))),
+        }
+    }
+}
+
+/// Carries out one event.
+fn handle<A: Allocator + Clone>(core: &mut Core<A>, event: Event<A>) -> Shown<A>
+    ensures { Carried {A = A} (Says event) core.old core.new (shown_text result) (images_shown result) }
+{
+    Shown::Reply(core.handle(event))
+}
+
+/// Carries out a command, and hands on what is printed of it.
 pub(crate) fn carry_out<A: Allocator + Clone>(
     core: &mut Core<A>,
     command: Command<Arguments<A>>,
-) -> Reply<A>
-    ensures { Carried {A = A} (Carries core.old.catalog command) core.old core.new (reply_text result) }
+) -> Shown<A>
+    ensures { Carried {A = A} (Carries core.old.catalog command) core.old core.new (shown_text result) (images_shown result) }
 {
     match command {
         Command::Begin(call) => {
@@ -94,12 +126,22 @@ pub(crate) fn carry_out<A: Allocator + Clone>(
                 procedure,
                 args,
             } = call;
-            Reply::Begin(core.begin(session, number, procedure, args.into_values()))
+            handle(
+                core,
+                Event::Begin(session, number, procedure, args.into_values()),
+            )
         }
-        Command::Step(session) => Reply::Step(core.step(session)),
-        Command::Finish(session) => Reply::Finish(core.finish(session)),
-        Command::GiveUp(session) => Reply::GiveUp(core.give_up(session)),
-        Command::Call(call) => run_call(core, call),
+        Command::Step(session) => handle(core, Event::Step(session)),
+        Command::Finish(session) => handle(core, Event::Finish(session)),
+        Command::GiveUp(session) => handle(core, Event::GiveUp(session)),
+        Command::Call(call) => Shown::Reply(run_call(core, call)),
+        Command::Start(kind) => handle(core, Event::Start(kind)),
+        Command::Advance => handle(core, Event::Advance),
+        Command::Capture => handle(core, Event::Capture),
+        Command::Scan => scan(core),
+        Command::TakeImage => handle(core, Event::TakeImage),
+        Command::Reclaim => handle(core, Event::Reclaim),
+        Command::Abandon => handle(core, Event::Abandon),
     }
 }
 
@@ -204,10 +246,7 @@ fn push_phase<A: Allocator>(out: &mut Vec<u8, A>, phase: Phase) -> Result<(), No
 }
 
 /// The line that is printed of a reply, and of an image a line for each entry.
-pub(crate) fn push_reply<A: Allocator + Clone>(
-    out: &mut Vec<u8, A>,
-    reply: &Reply<A>,
-) -> Result<(), NoMemory>
+fn push_reply<A: Allocator + Clone>(out: &mut Vec<u8, A>, reply: &Reply<A>) -> Result<(), NoMemory>
     ensures { OnOk result (out.new.items ≡ out.old.items ++ reply_text reply.now) }
 {
     match reply {
@@ -240,47 +279,81 @@ pub(crate) fn push_reply<A: Allocator + Clone>(
     }
 }
 
-/// The line that is printed of a reply, in place of what was there.
-fn print_line<A: Allocator + Clone>(line: &mut Vec<u8, A>, reply: &Reply<A>) -> Result<(), NoMemory>
-    ensures { OnOk result (line.new.items ≡ reply_text reply.now) }
+/// The lines that are printed of a command, behind what is there.
+pub(crate) fn push_shown<A: Allocator + Clone>(
+    out: &mut Vec<u8, A>,
+    shown: &Shown<A>,
+) -> Result<(), NoMemory>
+    ensures { OnOk result (out.new.items ≡ out.old.items ++ shown_text shown.now) }
 {
-    line.clear();
-    push_reply(line, reply)
+    match shown {
+        Shown::Reply(reply) => push_reply(out, reply),
+        Shown::Scanned(count) => push_numbered(out, b"slots ", *count as u64),
+    }
 }
 
-/// Carries out a command and writes the line that is printed of it.
+/// The lines that are printed of a command, in place of what was there.
+fn print_line<A: Allocator + Clone>(line: &mut Vec<u8, A>, shown: &Shown<A>) -> Result<(), NoMemory>
+    ensures { OnOk result (line.new.items ≡ shown_text shown.now) }
+{
+    line.clear();
+    push_shown(line, shown)
+}
+
+/// Keeps the image that a command took, if it took one. There is room for it.
+fn keep_image<A: Allocator>(images: &mut Vec<Image<A>, A>, shown: Shown<A>)
+    requires { vec_len images.old + 1 ≤ vec_capacity images.old }
+    ensures { images.new.items ≡ images.old.items ++ images_shown shown }
+{
+    match shown {
+        Shown::Reply(Reply::TakeImage(Some(image))) => images.push_reserved(image),
+        _ => {}
+    }
+}
+
+/// Carries out a command, writes the line that is printed of it, and keeps the image that it took.
 fn answer<W: Write, A: Allocator + Clone>(
     core: &mut Core<A>,
     writer: &mut W,
     line: &mut Vec<u8, A>,
+    images: &mut Vec<Image<A>, A>,
     command: Command<Arguments<A>>,
 ) -> Result<(), Fault>
-    ensures { (text : Bytes) × Carried {A = A} (Carries core.old.catalog command) core.old core.new text × Sent result (W.contents writer.old) (W.contents writer.new) text }
+    requires { vec_len images.old + 1 ≤ vec_capacity images.old }
+    ensures { (text : Bytes) × (taken : Images) × Carried {A = A} (Carries core.old.catalog command) core.old core.new text taken × Sent result (W.contents writer.old) (W.contents writer.new) text × OnOk result (images.new.items ≡ images.old.items ++ taken) }
 {
-    let reply = carry_out(core, command);
-    match print_line(line, &reply) {
+    let shown = carry_out(core, command);
+    match print_line(line, &shown) {
         Ok(()) => {}
         Err(NoMemory) => return Err(Fault::NoMemory),
     }
     match write_out(writer, line.as_slice()) {
-        Ok(()) => Ok(()),
-        Err(WriteError) => Err(Fault::Write),
+        Ok(()) => {}
+        Err(WriteError) => return Err(Fault::Write),
     }
+    keep_image(images, shown);
+    Ok(())
 }
 
-/// Carries out the commands, each after the line of the one before was written.
-pub(crate) fn run_commands<W: Write, A: Allocator + Clone>(
+/// Carries out the commands, each after the line of the one before was written, and answers the images
+/// that they took, in order.
+pub(crate) fn run_commands<W: Write, A: Allocator + Copy>(
     alloc: A,
     core: &mut Core<A>,
     writer: &mut W,
     commands: Vec<Command<Arguments<A>>, A>,
-) -> Result<(), Fault>
-    ensures ok { OnOk result ((text : Bytes) × Carried {A = A} (CarriesAll core.old.catalog commands.items) core.old core.new text × Appends (W.contents writer.old) (W.contents writer.new) text) }
-    ensures err { OnErr result ((text : Bytes) × HasRun A core.old.catalog commands.items core.old core.new text × Sent result (W.contents writer.old) (W.contents writer.new) text) }
+) -> Result<Vec<Image<A>, A>, Fault>
+    ensures ok { IfOk result (λ images. (text : Bytes) × Carried {A = A} (CarriesAll core.old.catalog commands.items) core.old core.new text images.items × Appends (W.contents writer.old) (W.contents writer.new) text) }
+    ensures err { IfErr result (λ f. (text : Bytes) × HasRun A core.old.catalog commands.items core.old core.new text × Sent (Err f) (W.contents writer.old) (W.contents writer.new) text) }
 {
     let mut line = Vec::new(alloc);
+    let mut images = Vec::new(alloc);
     for command in commands {
-        answer(core, writer, &mut line, command)?;
+        // Room for the image that the command may take.
+        if images.reserve(1).is_err() {
+            return Err(Fault::NoMemory);
+        }
+        answer(core, writer, &mut line, &mut images, command)?;
     }
-    Ok(())
+    Ok(images)
 }

@@ -19,7 +19,7 @@ returns-clause-run g c =
     IfOk-weaker c.run_text.result _ _
     (λ r h source known.
     let same = same_reading (g.R.Read.remaining c.args.reader.now) (g.R.Read.remaining c.read_text.new.reader) source c.in-Ok.text.items known c.in-Ok.ensures.read c.in-Ok.ensures.end in
-    (h.0, subst (λ says. RunsTo g.row.A.Denot says c.args.opening r.core h.0) (ap script_of c.as_slice.ensures.value ∙ sym same) h.1, h.2))
+    (h.0, subst (λ says. RunsTo g.row.A.Denot says c.args.opening r.core h.0 r.images.items) (ap script_of c.as_slice.ensures.value ∙ sym same) h.1, h.2))
     c.run_text.ensures.run
 
 pub returns-clause-fault : goal.returns-clause-fault

@@ -4,10 +4,18 @@ use Rattle.std.proofs.KnownBytes.{Appends-trans}
 use Rattle.std.proofs.lemmas.List.{append-nil, nil_from_length}
 use Rattle.std.proofs.lemmas.Result.{err_from_is_err_and}
 use Rattle.procedure.specs.Bytes.{Bytes}
-use Rattle.calcdb.specs.Runs.{Carried, Carries, CarriesAll}
+use Rattle.calcdb.specs.Runs.{Carried, Carries, CarriesAll, Images}
 use Rattle.calcdb.specs.declared.commands.Command.{Command}
 use Rattle.calcdb.proofs.CarryingOn.{carried_more, catalog_kept, length-of-cons, sent_after}
 use Rattle.calcdb.proofs.run.run_commands.Goals as goal
+
+pub returns-then-is_err-clause-err : goal.returns-then-is_err-clause-err
+returns-then-is_err-clause-err g c =
+    let i = c.loop-command.invariant in (
+      i.text,
+      record { front = i.front; left = into_iter_items c.loop-command.command-iterator; parts = i.parts; images = c.loop-command.images.items; carried = i.carried },
+      (i.text, [], sym (append-nil i.text), i.sent),
+    )
 
 pub loop-command-preserved : goal.loop-command-preserved
 loop-command-preserved g c =
@@ -20,14 +28,16 @@ loop-command-preserved g c =
     let new = c.answer.new.core in
     let left = into_iter_items c.next.new.self in
     let more = length-of-cons (into_iter_items c.loop-command.command-iterator) d left h.0 in
-    let this = subst (λ k. Carried {A = g.row.A.Denot} (Carries k d) core new a.0) i.catalog a.1 in
+    let this = subst (λ k. Carried {A = g.row.A.Denot} (Carries k d) core new a.0 a.1) i.catalog a.2 in
+    let images : Images = c.loop-command.images.items in
+    let kept : images ++ a.1 ≡ c.answer.new.images.items = sym (a.4 ∙ ap (λ (l : Images). l ++ a.1) c.reserve.ensures.items) in
     record {
       front = i.front ++ d ∷ [];
       text = i.text ++ a.0;
       parts = i.parts ∙ ap (λ (l : List (Command (List Bytes))). i.front ++ l) h.0 ∙ sym (append_assoc i.front (d ∷ []) left);
-      carried = carried_more first.catalog i.front d first core new i.text a.0 i.carried this;
-      sent = Appends-trans (g.W.Write.contents c.args.writer.now) (g.W.Write.contents c.loop-command.writer) (g.W.Write.contents c.answer.new.writer) i.text a.0 i.sent a.2;
-      catalog = catalog_kept (Carries core.catalog d) core new a.0 a.1 ∙ i.catalog;
+      carried = subst (λ l. Carried {A = g.row.A.Denot} (CarriesAll first.catalog (i.front ++ d ∷ [])) first new (i.text ++ a.0) l) kept (carried_more first.catalog i.front d first core new i.text a.0 images a.1 i.carried this);
+      sent = Appends-trans (g.W.Write.contents c.args.writer.now) (g.W.Write.contents c.loop-command.writer) (g.W.Write.contents c.answer.new.writer) i.text a.0 i.sent a.3;
+      catalog = catalog_kept (Carries core.catalog d) core new a.0 a.1 a.2 ∙ i.catalog;
       count = omega (arith, i.count, h.1, more);
     }
 
@@ -41,16 +51,17 @@ returns-in_err-answer-clause-err g c =
     let core = c.loop-command.core in
     let new = c.answer.new.core in
     let left = into_iter_items c.next.new.self in
-    let this = subst (λ k. Carried {A = g.row.A.Denot} (Carries k d) core new a.0) i.catalog a.1 in
+    let this = subst (λ k. Carried {A = g.row.A.Denot} (Carries k d) core new a.0 a.1) i.catalog a.2 in
     let p = err_from_is_err_and c.from_residual.result c.from_residual.ensures.1 in
-    let out = sent_after c.in_err-answer.field-0.0 (g.W.Write.contents c.args.writer.now) (g.W.Write.contents c.loop-command.writer) (g.W.Write.contents c.answer.new.writer) i.text a.0 i.sent a.2 in
+    let out = sent_after c.in_err-answer.field-0.0 (g.W.Write.contents c.args.writer.now) (g.W.Write.contents c.loop-command.writer) (g.W.Write.contents c.answer.new.writer) i.text a.0 i.sent a.3 in
     rw (p.1, p.2) (
       i.text ++ a.0,
       record {
         front = i.front ++ d ∷ [];
         left = left;
         parts = i.parts ∙ ap (λ (l : List (Command (List Bytes))). i.front ++ l) h.0 ∙ sym (append_assoc i.front (d ∷ []) left);
-        carried = carried_more first.catalog i.front d first core new i.text a.0 i.carried this;
+        images = c.loop-command.images.items ++ a.1;
+        carried = carried_more first.catalog i.front d first core new i.text a.0 c.loop-command.images.items a.1 i.carried this;
       },
       out,
     )
@@ -58,6 +69,7 @@ returns-in_err-answer-clause-err g c =
 pub returns-clause-ok : goal.returns-clause-ok
 returns-clause-ok g c =
     let i = c.loop-command.invariant in
+    let images : Images = c.loop-command.images.items in
     let left : into_iter_items c.loop-command.command-iterator ≡ [] = nil_from_length (into_iter_items c.loop-command.command-iterator) (sym i.count ∙ c.in-None.ensures.steps.0) in
     let all : c.args.commands.items ≡ i.front = i.parts ∙ ap (λ (l : List (Command (List Bytes))). i.front ++ l) left ∙ append-nil i.front in
-    (i.text, subst (λ (l : List (Command (List Bytes))). Carried {A = g.row.A.Denot} (CarriesAll c.args.core.now.catalog l) c.args.core.now c.loop-command.core i.text) (sym all) i.carried, i.sent)
+    (i.text, subst (λ (l : List (Command (List Bytes))). Carried {A = g.row.A.Denot} (CarriesAll c.args.core.now.catalog l) c.args.core.now c.loop-command.core i.text images) (sym all) i.carried, i.sent)

@@ -12,7 +12,7 @@ invariant-loop-command g l = record {
   front : List (Command (List Bytes));
   text : Bytes;
   parts : l.fn.commands.items ≡ front ++ into_iter_items l.command-iterator;
-  carried : Carried {A = g.row.A.Denot} (CarriesAll l.initial.core.catalog front) l.initial.core l.core text;
+  carried : Carried {A = g.row.A.Denot} (CarriesAll l.initial.core.catalog front) l.initial.core l.core text l.images.items;
   sent : Appends (g.W.Write.contents l.initial.writer) (g.W.Write.contents l.writer) text;
   catalog : l.core.catalog ≡ l.initial.core.catalog;
   count : into_iter_len l.command-iterator ≡ length (into_iter_items l.command-iterator);
