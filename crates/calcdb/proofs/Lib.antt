@@ -4,6 +4,7 @@ pub mod Decimals
 pub mod Endings
 pub mod Goings
 pub mod Lawful
+pub mod Loading
 pub mod Pieces
 pub mod Printed
 pub mod Readers

@@ -7,6 +7,7 @@ pub mod Scripts
 pub mod Streams
 pub mod Outcomes
 pub mod Output
+pub mod Pairs
 pub mod Reads
 pub mod Reasons
 pub mod Values

@@ -49,7 +49,10 @@ fn push_reason<A: Allocator + Clone>(line: &mut Vec<u8, A>, reason: Reason) -> R
 }
 
 /// The one line of a fault, behind what is there; nothing where it has none.
-fn push_fault<A: Allocator + Clone>(line: &mut Vec<u8, A>, fault: &Fault) -> Result<(), NoMemory>
+pub(crate) fn push_fault<A: Allocator + Clone>(
+    line: &mut Vec<u8, A>,
+    fault: &Fault,
+) -> Result<(), NoMemory>
     ensures { OnOk result (line.new.items ≡ line.old.items ++ fault_text fault.now) }
 {
     match fault {

@@ -5,8 +5,8 @@ ghost use Rattle.std.specs.Prelude.{Some};
 use std::error::Error;
 use std::fmt;
 
-/// Why a run ends before its last command was answered. At `Line`, `Size` and `Refused` the one line
-/// that says so was written first.
+/// Why a run ends before its last command was answered, or a text isn't loaded. At `Line`, `Size` and
+/// `Refused` the one line that says so was written first.
 #[derive(Debug, Drop, thiserror::Error)]
 pub(crate) enum Fault {
     #[error("a read failed")]
@@ -15,10 +15,10 @@ pub(crate) enum Fault {
     Write,
     #[error("no memory")]
     NoMemory,
-    /// The first faulty line of a script.
+    /// The first faulty line of a text.
     #[error("fault line {0}")]
     Line(u64),
-    /// The script has over 4,194,304 bytes.
+    /// The text has over 4,194,304 bytes.
     #[error("fault size")]
     Size,
     #[error("refused {0}")]

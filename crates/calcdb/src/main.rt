@@ -1,8 +1,9 @@
-//! The program `calcdb`: it runs scripts of calls and checkpoints on an engine's core.
+//! The program `calcdb`: it runs scripts of calls and checkpoints on an engine's core, and loads pairs
+//! as images.
 //!
 //! The definitions are in `specs/`: the text of a script (`Lines`, `Values`, `Instructions`,
 //! `Commands`, `Scripts`), the text of answers (`Output`, `Reasons`), what commands do to a core
-//! (`Runs`), and how a run ends (`Outcomes`).
+//! (`Runs`), how a run ends (`Outcomes`), and the image of a text of pairs (`Pairs`).
 #![tactic(auto)]
 
 #[cfg(test)]
@@ -30,6 +31,9 @@ mod instructions;
 mod large_tests;
 mod lines;
 mod output;
+mod pairs;
+#[cfg(test)]
+mod pairs_tests;
 mod program;
 #[cfg(test)]
 mod program_tests;

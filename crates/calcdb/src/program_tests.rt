@@ -2,8 +2,10 @@
 
 use crate::device_tests::{ANSWERS, CALLS};
 use crate::devices::{PLENTY, Sink};
+use crate::growth_tests::MOST;
 use crate::growths::Fallible;
 use crate::program::perform;
+use image::read_image;
 use std::alloc::{Allocator, Global};
 use std::fs;
 use std::io::ErrorKind;
@@ -113,6 +115,106 @@ fn statuses(rt: HostRuntime) -> Result<(), Fail> {
     Ok(())
 }
 
+/// A load of files, from the folder of the test; then the status, standard output and standard error.
+const LOADS: [(&str, &str, u8, &str, &str); 6] = [
+    (
+        "pairs",
+        "image",
+        0,
+        "image full 0 base 0 place 0 count 1\n",
+        "",
+    ),
+    ("faulty", "no_image", 1, "fault line 2\n", ""),
+    ("none", "no_image", 1, "", "calcdb: cannot read none\n"),
+    (".", "no_image", 1, "", "calcdb: cannot read .\n"),
+    (
+        "pairs",
+        "none/image",
+        1,
+        "image full 0 base 0 place 0 count 1\n",
+        "calcdb: cannot write none/image\n",
+    ),
+    (
+        "pairs",
+        ".",
+        1,
+        "image full 0 base 0 place 0 count 1\n",
+        "calcdb: cannot write .\n",
+    ),
+];
+
+/// Only the first makes a file: 69 bytes of header and digest, and a block of an entry of 13 bytes.
+#[test]
+fn loads(rt: HostRuntime) -> Result<(), Fail> {
+    let alloc = rt.alloc();
+    fs::write(&rt, "pairs", "'a #1")?;
+    fs::write(&rt, "faulty", "'a #1\n'a #2")?;
+    for (pairs, image, expected, written, said) in LOADS {
+        let mut out = Sink::new(alloc, PLENTY, PLENTY);
+        let words = ["calcdb", "load", pairs, image];
+        let (status, err) = performed(&rt, alloc, words.as_slice(), &mut out);
+        assert_eq!(rt; status, expected, "{image}");
+        assert_eq!(rt; out.kept.as_slice(), written.as_bytes());
+        assert_eq!(rt; err.as_slice(), said.as_bytes());
+    }
+    let bytes = fs::read(&rt, "image")?;
+    assert_eq!(rt; bytes.len(), 114);
+    let read = read_image(alloc, bytes.as_slice()).map_err(|_| "no image")?;
+    assert_eq!(rt; read.entries().len(), 1);
+    assert!(rt; fs::read(&rt, "no_image").is_err());
+    for name in ["pairs", "faulty", "image"] {
+        fs::remove_file(&rt, name)?;
+    }
+    Ok(())
+}
+
+/// Each growth refused in turn, also as the image is written: the last line says so.
+#[test]
+fn loads_without_memory(rt: HostRuntime) -> Result<(), Fail> {
+    let heap = Fallible::new(rt.alloc());
+    fs::write(&rt, "few_pairs", "'a #1")?;
+    let mut headers = 0u32;
+    for refused in 1..MOST {
+        let mut out = Sink::new(rt.alloc(), PLENTY, PLENTY);
+        let words = ["calcdb", "load", "few_pairs", "few_image"];
+        heap.arm(refused);
+        let (status, err) = performed(&rt, &heap, words.as_slice(), &mut out);
+        assert!(rt; err.is_empty());
+        if heap.asked() < refused {
+            assert_eq!(rt; status, 0);
+            break;
+        }
+        assert!(rt; status == 1 && out.kept.as_slice().ends_with(b"refused no memory\n"));
+        if out.kept.as_slice().starts_with(b"image full 0") {
+            headers = headers.saturating_add(1);
+            assert_eq!(rt; fs::read(&rt, "few_image")?.len(), 0);
+        }
+    }
+    assert_eq!(rt; headers, 1);
+    assert_eq!(rt; fs::read(&rt, "few_image")?.len(), 114);
+    fs::remove_file(&rt, "few_pairs")?;
+    fs::remove_file(&rt, "few_image")?;
+    Ok(())
+}
+
+/// An output that can't be written, or flushed.
+#[test]
+fn loads_without_output(rt: HostRuntime) -> Result<(), Fail> {
+    let alloc = rt.alloc();
+    fs::write(&rt, "one_pair", "'a #1")?;
+    for (writes, flushes) in [(0, true), (PLENTY, false)] {
+        let mut out = Sink::new(alloc, PLENTY, writes);
+        out.flushes = flushes;
+        let words = ["calcdb", "load", "one_pair", "one_image"];
+        let (status, err) = performed(&rt, alloc, words.as_slice(), &mut out);
+        assert_eq!(rt; status, 1);
+        assert_eq!(rt; err.as_slice(), "calcdb: cannot write output\n".as_bytes());
+    }
+    fs::remove_file(&rt, "one_pair")?;
+    fs::remove_file(&rt, "one_image")?;
+    Ok(())
+}
+
 #[test]
 fn faulty_command_lines(rt: HostRuntime) {
     let alloc = rt.alloc();
@@ -121,6 +223,8 @@ fn faulty_command_lines(rt: HostRuntime) {
         ["calcdb"].as_slice(),
         ["calcdb", "run"].as_slice(),
         ["calcdb", "run", "a", "b"].as_slice(),
+        ["calcdb", "load", "a"].as_slice(),
+        ["calcdb", "load", "a", "b", "c"].as_slice(),
     ] {
         let mut out = Sink::new(alloc, PLENTY, PLENTY);
         let (status, err) = performed(&rt, alloc, words, &mut out);

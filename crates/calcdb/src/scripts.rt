@@ -20,10 +20,10 @@ use procedure::{Catalog, Instr, Key, KeyMap, Procedure, Sequence, Value};
 use std::alloc::{AllocError, Allocator};
 use std::marker::Model;
 
-/// Bytes of a script.
+/// Bytes of a script, and of any text that the program reads.
 pub(crate) const SCRIPT_BYTES: usize = 4_194_304;
 
-/// Why a text is no script.
+/// Why a text is no script, or no text of pairs.
 #[derive(Clone, Copy, Debug, PartialEq, Eq)]
 pub(crate) enum ScriptFault {
     /// The first faulty line, counted from 1.

@@ -1,0 +1,26 @@
+use Rattle.std.proofs.Common.{refl, sym, ◌∙◌, subst, ap}
+use Rattle.std.proofs.lemmas.Result.{IfErr-weaker, IfOk-weaker}
+use Rattle.calcdb.specs.Pairs.{EndsAs, image_of}
+use Rattle.calcdb.proofs.Loading.{same_image}
+use Rattle.calcdb.proofs.pairs.load.Goals as goal
+
+pub returns-in-Err-NoMemory-clause-fault : goal.returns-in-Err-NoMemory-clause-fault
+returns-in-Err-NoMemory-clause-fault g c = λ source known. c.refuse.ensures (image_of source) refl
+
+pub returns-clause-image : goal.returns-clause-image
+returns-clause-image g c =
+    IfOk-weaker c.load_text.result _ _
+    (λ i h source known.
+    let same = same_image (g.R.Read.remaining c.args.reader.now) (g.R.Read.remaining c.read_text.new.reader) source c.in-Ok.text.items known c.in-Ok.ensures.read c.in-Ok.ensures.end in
+    (same ∙ sym (ap image_of c.as_slice.ensures.value) ∙ h.0, h.1))
+    c.load_text.ensures.ok
+
+pub returns-clause-fault : goal.returns-clause-fault
+returns-clause-fault g c =
+    let old = g.W.Write.contents c.args.writer.now in
+    let new = g.W.Write.contents c.load_text.new.writer in
+    IfErr-weaker c.load_text.result _ _
+    (λ f h source known.
+    let same = same_image (g.R.Read.remaining c.args.reader.now) (g.R.Read.remaining c.read_text.new.reader) source c.in-Ok.text.items known c.in-Ok.ensures.read c.in-Ok.ensures.end in
+    subst (λ says. EndsAs says old new f) (ap image_of c.as_slice.ensures.value ∙ sym same) h)
+    c.load_text.ensures.err

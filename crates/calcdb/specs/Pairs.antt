@@ -1,0 +1,101 @@
+-- The table that the pairs of a text make, and the image that it is loaded as.
+use Rattle.std.specs.Prelude.{◌≡◌, ◌⊎◌, ℕ, ◌+◌, ◌&&◌, if◌then◌else◌, nat_lt, nat_le, List, [], ◌∷◌, length, Option, Some, None, is_none, Result, Ok, Err}
+use Rattle.std.specs.FinMap as map
+use Rattle.std.specs.Io.KnownBytes.{Appends}
+use Rattle.procedure.specs.Bytes.{Bytes}
+use Rattle.procedure.specs.Table.{Table, value_at}
+use Rattle.procedure.specs.declared.limits.TheConstants.{KEY_BYTES, VALUE_BYTES}
+use Rattle.image.specs.Images.{Image, full_image}
+use Rattle.image.specs.declared.limits.TheConstants.{ENTRIES}
+use Rattle.calcdb.specs.Reads.{◌>>=◌}
+use Rattle.calcdb.specs.Lines.{all_pass, first_word, is_allowed, is_skipped, lines, no_word, words}
+use Rattle.calcdb.specs.Values.{value_of}
+use Rattle.calcdb.specs.Output.{header_text}
+use Rattle.calcdb.specs.Outcomes.{fault_text}
+use Rattle.calcdb.specs.Streams.{IsBegun}
+use Rattle.calcdb.specs.declared.faults.Fault.{Fault}
+use Rattle.calcdb.specs.declared.faults.Fault.TheVariants as fault
+use Rattle.calcdb.specs.declared.faults.Reason.TheVariants as reason
+use Rattle.calcdb.specs.declared.scripts.ScriptFault.{ScriptFault}
+use Rattle.calcdb.specs.declared.scripts.ScriptFault.TheVariants.{Line, Size}
+use Rattle.calcdb.specs.declared.scripts.TheConstants.{SCRIPT_BYTES}
+
+-- a key has 1 to 32 bytes
+abbrev pub as_key : Bytes → Option Bytes
+as_key bytes = if nat_lt 0 (length bytes) && nat_le (length bytes) KEY_BYTES then Some bytes else None
+
+abbrev pub key_of : Bytes → Option Bytes
+key_of word = value_of word >>= as_key
+
+-- what a key holds has at most 65,535 bytes
+abbrev pub as_held : Bytes → Option Bytes
+as_held bytes = if nat_le (length bytes) VALUE_BYTES then Some bytes else None
+
+abbrev pub held_of : Bytes → Option Bytes
+held_of word = value_of word >>= as_held
+
+-- `KEY VALUE`
+unfoldable pub pair_of : List Bytes → Option (Bytes × Bytes)
+pair_of ws = do
+  k ← first_word ws
+  key ← key_of k.0
+  v ← first_word k.1
+  held ← held_of v.0
+  _ ← no_word v.1
+  Some (key, held)
+
+-- a pair is added where its key is new and there are fewer than 100,000
+abbrev pub with_pair : Table → Bytes × Bytes → Option Table
+with_pair t p = if nat_lt (map.len t) ENTRIES && is_none (value_at t p.0) then Some (map.insert t p.0 p.1) else None
+
+-- the table after a line's words
+abbrev pub after_words : Table → List Bytes → Option Table
+after_words t ws = if is_skipped ws then Some t else (pair_of ws >>= with_pair t)
+
+-- the table after one line more
+abbrev pub after_line : Table → Bytes → Option Table
+after_line t line = if all_pass is_allowed line then after_words t (words line) else None
+
+-- the table after these lines, which are numbered from n on, or the first of them that is faulty
+unfoldable pub table_after : Table → ℕ → List Bytes → Result Table ScriptFault
+table_after t n [] = Ok t
+table_after t n (l ∷ ls) = elim (after_line t l) [ None ↦ Err (Line n) | Some u ↦ table_after u (n + 1) ls ]
+
+-- the table of a text of at most 4,194,304 bytes, or its fault
+unfoldable pub table_of : Bytes → Result Table ScriptFault
+table_of text = if nat_le (length text) SCRIPT_BYTES then table_after map.empty 1 (lines text) else Err Size
+
+-- the opening image of a table: full, with number, base and place 0
+abbrev pub loaded : Result Table ScriptFault → Result Image ScriptFault
+loaded (Ok t) = Ok (full_image 0 0 t)
+loaded (Err e) = Err e
+
+-- the opening image of the pairs of a text, or its fault
+abbrev pub image_of : Bytes → Result Image ScriptFault
+image_of text = loaded (table_of text)
+
+-- the header line of an image
+abbrev pub header_line : Image → Bytes
+header_line i = header_text i.kind i.number i.base i.place (length i.entries)
+
+-- the fault of a text, or want of memory
+abbrev pub IsFault : Result Image ScriptFault → Fault → Type 0
+IsFault says (fault.Line n) = says ≡ Err (Line n)
+IsFault says fault.Size = says ≡ Err Size
+IsFault says (fault.Refused r) = r ≡ reason.NoMemory
+IsFault says fault.Read = ⊥
+IsFault says fault.Write = ⊥
+IsFault says fault.NoMemory = ⊥
+
+-- the line that may be written: the image's header, or that of a fault
+abbrev pub IsLine : Result Image ScriptFault → Bytes → Type 0
+IsLine says text = ((i : Image) × (says ≡ Ok i) × (text ≡ header_line i)) ⊎ ((f : Fault) × IsFault says f × (text ≡ fault_text f))
+
+-- what went out by the time of a fault: its line; where a write failed a beginning of a line, and where a read failed nothing
+abbrev pub EndsAs : Result Image ScriptFault → Option Bytes → Option Bytes → Fault → Type 0
+EndsAs says old new (fault.Line n) = IsFault says (fault.Line n) × Appends old new (fault_text (fault.Line n))
+EndsAs says old new fault.Size = IsFault says fault.Size × Appends old new (fault_text fault.Size)
+EndsAs says old new (fault.Refused r) = IsFault says (fault.Refused r) × Appends old new (fault_text (fault.Refused r))
+EndsAs says old new fault.Read = Appends old new []
+EndsAs says old new fault.Write = (text : Bytes) × IsLine says text × IsBegun old new text
+EndsAs says old new fault.NoMemory = ⊥
