@@ -9,10 +9,8 @@ use Rattle.procedure.specs.Table.{KeyMap}
 use Rattle.locktable.specs.Locks.{Locks, IsFree}
 use Rattle.locktable.specs.declared.modes.Mode.{Mode}
 use Rattle.record_store.proofs.Fields.{edited_here}
-use Rattle.record_store.proofs.Versions.{version_of-aside}
 use Rattle.record_store.specs.Stores.{Record, Slots, candidate_key, changed, key_at, record_at, with_aside}
 use Rattle.steps.specs.Asides.{AsideIn, IsKnown, IsLocked, StaysFor, aside_at, is_aside, put_aside}
-use Rattle.steps.specs.Edits.{shown, versions_in}
 use Rattle.steps.specs.declared.reclaiming.Aside.{Aside}
 use Rattle.steps.specs.declared.reclaiming.Aside.TheVariants.{Unknown, Collected, CollectedOrLocked}
 
@@ -45,10 +43,6 @@ keys_stay b slots i j =
       | inl e ↦ rw e (ap (option_map (λ (r : Record). r.key)) (here b slots i) ∙ key_stays b (record_at slots i))
       | inr differs ↦ ap (option_map (λ (r : Record). r.key)) (other b slots i j differs)
     ]
-
-pub versions_stay : (b : Bool) (slots : Slots) (i : ℕ) (q : Bytes) → versions_in (changed (with_aside b) slots i) q ≡ versions_in slots q
-unfolding versions_in
-versions_stay b slots i q = ap (option_map shown) (version_of-aside b slots i q)
 
 -- WHO IS ASIDE
 

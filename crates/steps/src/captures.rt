@@ -193,6 +193,9 @@ impl<A: Allocator + Clone> Core<A> {
 
     /// The scan visits one place: a slot, or one of the keys that were written between the two cuts. It
     /// keeps what the image has of the key there. Where no place is left nothing changes.
+    ///
+    /// It is refused in another phase than capture (`NotCapturing`), and for memory (`NoMemory`). A
+    /// refusal changes nothing.
     pub fn capture(&mut self) -> Result<Captured, CaptureError>
         ensures captured { IfOk result (λ x. CapturesAs x self.old self.new) }
         ensures refused { OnErr result (self.new ≡ self.old) }

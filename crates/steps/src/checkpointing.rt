@@ -110,6 +110,10 @@ impl<A: Allocator> Core<A> {
 
     /// A checkpoint begins, and its number is answered: one more than that of the last that began.
     /// Calls that are open go on.
+    ///
+    /// It is refused in another phase than rest (`NotAtRest`), where the image of the last one still
+    /// waits (`NotTaken`), by a log of 1,000,000 records (`LogFull`), and for memory (`NoMemory`). A
+    /// refusal changes nothing.
     pub fn start(&mut self, kind: Kind) -> Result<u64, StartError>
         ensures started { OnOk result (self.new ≡ started self.old kind) }
         ensures number { IfOk result (λ n. n ≡ suc (number_of self.old.log)) }
@@ -201,6 +205,9 @@ impl<A: Allocator> Core<A> {
 
     /// The checkpoint is given up, and its number answered: its keys count as written since the last
     /// finished one, and the open calls as begun at rest.
+    ///
+    /// It is refused in another phase than resolve and capture (`NotAbandonable`), by a log of 1,000,000
+    /// records (`LogFull`), and for memory (`NoMemory`). A refusal changes nothing.
     pub fn abandon(&mut self) -> Result<u64, AbandonError>
         ensures abandoned { OnOk result (self.new ≡ abandoned self.old) }
         ensures number { IfOk result (λ n. n ≡ number_of self.old.log) }
@@ -243,6 +250,10 @@ impl<A: Allocator + Clone> Core<A> {
     /// Enters the phase that follows, and answers it: into resolve the checkpoint's cut is made, into
     /// capture its scan begins, into complete its image is finished, and into rest it ends. The log
     /// gets a token that says so.
+    ///
+    /// It is refused at rest (`AtRest`); in prepare, resolve and complete where an open call started in
+    /// another phase (`StillActive`); in capture where the scan has places left (`NotScanned`); by a log of
+    /// 1,000,000 records (`LogFull`); and for memory (`NoMemory`). A refusal changes nothing.
     pub fn advance(&mut self) -> Result<Phase, AdvanceError>
         ensures advanced { IfOk result (λ p. AdvancesTo p self.old self.new) }
         ensures phase { IfOk result (λ p. p ≡ successor (phase_of self.old.log)) }

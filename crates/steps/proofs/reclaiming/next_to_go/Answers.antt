@@ -2,7 +2,8 @@ use Rattle.std.proofs.Common.{◌≡◌, ap, ◌∙◌, length, true}
 use Rattle.record_store.specs.Stores.{Slots, key_at}
 use Rattle.steps.specs.Asides.{put_aside}
 use Rattle.steps.specs.Edits.{versions_in}
-use Rattle.steps.proofs.Candidates.{keys_stay, slots_stay, versions_stay}
+use Rattle.steps.proofs.Candidates.{keys_stay, slots_stay}
+use Rattle.steps.proofs.Edited.{versions_aside}
 use Rattle.steps.proofs.reclaiming.next_to_go.Goals as goal
 
 pub loop-slot-preserved : goal.loop-slot-preserved
@@ -16,5 +17,5 @@ loop-slot-preserved g c =
       reasons = c.stays.ensures.reasons;
       slots = ap length is ∙ slots_stay true now i ∙ kept.slots;
       keys = λ slot. ap (λ (slots : Slots). key_at slots slot) is ∙ keys_stay true now i slot ∙ kept.keys slot;
-      versions = λ q. ap (λ (slots : Slots). versions_in slots q) is ∙ versions_stay true now i q ∙ kept.versions q;
+      versions = λ q. ap (λ (slots : Slots). versions_in slots q) is ∙ versions_aside true now i q ∙ kept.versions q;
     }
