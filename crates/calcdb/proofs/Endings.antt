@@ -6,7 +6,8 @@ use borrow.Author.Tests.{leb-true, leb-false, lt-leb}
 use Rattle.procedure.specs.Bytes.{Bytes}
 use Rattle.image.specs.Images.{Image}
 use Rattle.steps.specs.CoreViews.{CoreView}
-use Rattle.steps.specs.Openings.{IsOpened, is_opening}
+use Rattle.image.specs.Openings.{is_opening}
+use Rattle.steps.specs.Openings.{IsOpened}
 use Rattle.calcdb.specs.Outcomes.{EndsAs, IsFault, Refuses, RefusesScript, StopsAs, fault_text}
 use Rattle.calcdb.specs.Runs.{Carried, CarriesAll, HasRun}
 use Rattle.calcdb.specs.declared.commands.Command.{Command}

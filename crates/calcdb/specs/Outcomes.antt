@@ -4,7 +4,8 @@ use Rattle.std.specs.Io.KnownBytes.{Appends}
 use Rattle.procedure.specs.Bytes.{Bytes}
 use Rattle.image.specs.Images.{Image}
 use Rattle.steps.specs.CoreViews.{CoreView}
-use Rattle.steps.specs.Openings.{IsOpened, is_opening}
+use Rattle.image.specs.Openings.{is_opening}
+use Rattle.steps.specs.Openings.{IsOpened}
 use Rattle.calcdb.specs.Reasons.{reason_text}
 use Rattle.calcdb.specs.Runs.{Carried, CarriesAll, HasRun, Images, Sent}
 use Rattle.calcdb.specs.Scripts.{Script}

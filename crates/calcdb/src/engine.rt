@@ -3,7 +3,8 @@
 ghost use Rattle.std.specs.Prelude.{◌≡◌, ◌⊎◌, ◌++◌, IfErr, IfOk, OnErr, OnOk, Some, true, Ok};
 ghost use Rattle.std.specs.Io.KnownBytes.{Appends};
 ghost use Rattle.procedure.specs.Bytes.{Bytes};
-ghost use Rattle.steps.specs.Openings.{IsOpened, is_opening};
+ghost use Rattle.image.specs.Openings.{is_opening};
+ghost use Rattle.steps.specs.Openings.{IsOpened};
 ghost use Rattle.steps.specs.CoreViews.{CoreView};
 ghost use Rattle.calcdb.specs.Outcomes.{EndsAs, HasLine, Refuses, RefusesScript, RunsTo, StopsAs, fault_text};
 ghost use Rattle.calcdb.specs.Reasons.{reason_text};
@@ -16,7 +17,7 @@ use crate::output::{push_decimal, push_text};
 use crate::run::run_commands;
 use crate::scripts::{Script, ScriptFault, read_script};
 use crate::streams::{ReadError, WriteError, read_text, write_out};
-use image::{Image, Kind};
+use image::Image;
 use procedure::NoMemory;
 use std::alloc::Allocator;
 use std::io::{Read, Write};
@@ -27,16 +28,6 @@ use steps::Core;
 pub(crate) struct Ran<A: Allocator> {
     pub core: Core<A>,
     pub images: Vec<Image<A>, A>,
-}
-
-/// Whether an image is one to open from: full, with number, base and place 0.
-fn is_opening<A: Allocator>(image: &Image<A>) -> bool
-    ensures { result ≡ is_opening image.now }
-{
-    match image.kind() {
-        Kind::Full => image.number() == 0 && image.base() == 0 && image.place() == 0,
-        Kind::Partial => false,
-    }
 }
 
 /// A reason's name, behind what is there.
@@ -158,7 +149,7 @@ pub(crate) fn run_script<R: Read, W: Write, A: Allocator + Copy>(
     // And else the one line of the fault, or a beginning of the answers.
     ensures fault { IfErr result (λ f. (source : Bytes) → R.remaining reader.old ≡ Some source → EndsAs A (script_of source) opening (W.contents writer.old) (W.contents writer.new) f) }
 {
-    if !is_opening(&opening) {
+    if !opening.is_opening() {
         let refused = Fault::Refused(Reason::NotAnOpening);
         return Err(refuse(alloc, writer, refused));
     }

@@ -5,6 +5,7 @@ ghost use Rattle.procedure.specs.Table.{change_at};
 ghost use Rattle.std.specs.FinMap as finite;
 ghost use Rattle.image.specs.Images.{Image, IsLawful, SuitsKind, changes_of, entries_of, full_image};
 ghost use Rattle.image.specs.Headers.{IsOnce, of_captured};
+ghost use Rattle.image.specs.Openings.{is_opening};
 ghost use Rattle.image.specs.declared.images.Kind.TheVariants.{Full};
 ghost use Rattle.image.specs.declared.images.OpeningError.TheVariants as refused;
 
@@ -165,6 +166,16 @@ impl<A: Allocator> Image<A> {
         ensures { result ≡ self.now.place }
     {
         self.place
+    }
+
+    /// Whether a table opens with this image: it is full, with number, base and place 0.
+    pub fn is_opening(&self) -> bool
+        ensures { result ≡ is_opening self.now }
+    {
+        match self.kind {
+            Kind::Full => self.number == 0 && self.base == 0 && self.place == 0,
+            Kind::Partial => false,
+        }
     }
 
     /// The entries, in the byte order of their keys.

@@ -1,5 +1,5 @@
 -- Records that are audited, one after another.
-use Rattle.std.proofs.Common.{◌≡◌, ◌⊎◌, inl, inr, ℕ, ◌+◌, ◌≤◌, Bool, List, [], ◌∷◌, ◌++◌, length, Ok, Err, append_assoc, refl, sym, ap, ◌∙◌, subst, arith}
+use Rattle.std.proofs.Common.{◌≡◌, ◌⊎◌, inl, inr, ℕ, ◌+◌, ◌≤◌, Bool, true, true≢false, List, [], ◌∷◌, ◌++◌, length, Ok, Err, append_assoc, refl, sym, ap, ◌∙◌, subst, arith}
 use Rattle.std.specs.declared.result.Result.{Result}
 use Rattle.std.proofs.lemmas.List.{append-nil, length-append}
 use Rattle.procedure.specs.Bytes.{Bytes}
@@ -17,12 +17,13 @@ use Rattle.commitlog.proofs.Histories.{each-push, after-push}
 use Rattle.commitlog.proofs.OneReadings.{one_reading}
 use Rattle.image.specs.Images.{Image}
 use Rattle.image.specs.Merges.{table_of}
+use Rattle.image.specs.Openings.{is_opening}
 use Rattle.replay.specs.Parts.{AreAudited, EntryAgain, audited_at}
 use Rattle.replay.specs.Replays.{IsAnsweredOn, LeavesFewOn, Diverges, Overflows, IsFirst, calls_in, is_torn}
 use Rattle.replay.specs.Headers.{NamesCatalog, NamesOpening}
 use Rattle.replay.specs.Orders.{IsAfter, IsInOrder}
 use Rattle.replay.specs.Refusals.{audit_of_log}
-use Rattle.replay.specs.Audits.{FailsAt, InOrderBut, IsAudit, IsOpening, IsOutOfOrder, NamesBoth, OfLog, OfReading, Passes}
+use Rattle.replay.specs.Audits.{FailsAt, InOrderBut, IsAudit, IsOutOfOrder, NamesBoth, OfLog, OfReading, Passes}
 use Rattle.replay.specs.declared.audits.Audited.{Audited}
 use Rattle.replay.specs.declared.calls.CallError.{CallError}
 use Rattle.replay.specs.declared.calls.CallError.TheVariants as stopped
@@ -210,8 +211,8 @@ one_of_reading c i (Log v h l e) x y a b = one_of_log c i v h l e x y a b
 -- there is one answer
 pub one_audit : (c : List Procedure) (i : Image) (text : Bytes) (x y : Result Audited AuditError) → IsAudit c i text x → IsAudit c i text y → x ≡ y
 one_audit c i text x y (inl a) (inl b) = a.1 ∙ sym b.1
-one_audit c i text x y (inl a) (inr b) = absurd (a.0 b.0)
-one_audit c i text x y (inr a) (inl b) = absurd (b.0 a.0)
+one_audit c i text x y (inl a) (inr b) = absurd (true≢false (sym b.0 ∙ a.0))
+one_audit c i text x y (inr a) (inl b) = absurd (true≢false (sym a.0 ∙ b.0))
 one_audit c i text x y (inr a) (inr b) = one_of_reading c i a.1 x y a.3 (subst (λ r. OfReading c i r y) (one_reading text b.1 a.1 b.2 a.2) b.3)
 
 pub or_no_memory : (c : List Procedure) (i : Image) (text : Bytes) (x y : Result Audited AuditError) → IsAudit c i text x ⊎ (x ≡ Err refused.NoMemory) → IsAudit c i text y →
@@ -227,7 +228,7 @@ unread e = Err e
 abbrev nothing : AuditError → Result Audited AuditError
 nothing e = Err e
 
-module _ (c : List Procedure) (i : Image) (text : Bytes) (opening : IsOpening i) where
+module _ (c : List Procedure) (i : Image) (text : Bytes) (opening : is_opening i ≡ true) where
   pub from_log : (v : Version) (h : LogHeader) (l : List Record) (e : Ending) (x : Result Audited AuditError) → IsReading text (Log v h l e) →
       OfLog c i v h l e x ⊎ (x ≡ Err refused.NoMemory) → IsAudit c i text x ⊎ (x ≡ Err refused.NoMemory)
   from_log v h l e x read (inl said) = inl (inr (opening, Log v h l e, read, said))

@@ -23,11 +23,11 @@ use Rattle.commitlog.proofs.Cuts.{cut-front, found_in_front, split_at}
 use Rattle.image.specs.Images.{Image, IsLawful, changes_of, full_image}
 use Rattle.image.specs.Merges.{IsChain, Refusal, StandOn, chain_refusal, is_full, is_partial, last_of, links_refusal, merged_image, refusal_of, table_of, unless}
 use Rattle.image.specs.Merges as merges
+use Rattle.image.specs.Openings.{is_opening}
 use Rattle.image.specs.declared.images.Kind.{Kind}
 use Rattle.image.specs.declared.merges.MergeError.{MergeError}
 use Rattle.image.specs.declared.merges.MergeError.TheVariants.{TooMany, NotFull, NotPartial, Gap}
 use Rattle.image.specs.declared.limits.TheConstants.{ENTRIES, IMAGES}
-use Rattle.replay.specs.Audits.{IsOpening}
 use Rattle.replay.specs.Headers.{NamesOpening}
 use Rattle.replay.specs.Promises.{FromImages, FromOpening, IsChainOf, IsHistory, IsOfKind, Recovers, data_of}
 use Rattle.replay.specs.Recovery.{BeginsLog, GoesOn, IsRecovery, OfLog, Recovery, chain_of, chain_or, recovery, uncovered}
@@ -37,7 +37,7 @@ use Rattle.replay.specs.declared.errors.RecoverError.TheVariants as refused
 use Rattle.replay.proofs.ChainCuts.{chain_is_cut, last_place}
 use Rattle.replay.proofs.LogFronts.{fronts_are_read}
 use Rattle.replay.proofs.Recovering.{from_read, or_no_memory}
-use Rattle.replay.proofs.OpeningImages.{change_at-full, opening_is, table_of-full}
+use Rattle.replay.proofs.OpeningImages.{Opening, change_at-full, opening_is, parts_of, table_of-full}
 
 -- ---- each call of a history runs again
 
@@ -219,23 +219,26 @@ from_images c is text x answer opening v h m left e full ps history read images 
     recovers c opening v h m left e full ps history chain holds text x read (subst (λ (js : List Image). IsRecovery c js text x ⊎ (x ≡ Err refused.NoMemory)) images answer)
 
 -- the opening is an image of its log
-module _ (c : List Procedure) (opening : Image) (opens : IsOpening opening) (lawful : IsLawful opening) (l : List Record) where
+module _ (c : List Procedure) (opening : Image) (opens : is_opening opening ≡ true) (lawful : IsLawful opening) (l : List Record) where
+  zeros : Opening opening
+  zeros = parts_of opening opens
+
   opening_image : IsFullImage c (table_of opening) l (data_of opening)
   unfolding after
   opening_image = record {
-    base = opens.base ∙ sym opens.number;
-    place = opens.place ∙ sym (ap (cut l) opens.number);
+    base = zeros.base ∙ sym zeros.number;
+    place = zeros.place ∙ sym (ap (cut l) zeros.number);
     entries = λ q.
         ap (λ (i : Image). change_at (changes_of i) q) (opening_is opening opens lawful)
         ∙ change_at-full 0 0 (table_of opening) q
-        ∙ sym (ap (λ j. in_full (value_at (at_cut c (table_of opening) l j) q)) opens.number);
+        ∙ sym (ap (λ j. in_full (value_at (at_cut c (table_of opening) l j) q)) zeros.number);
   }
 
   opening_chain : IsChainOf c (table_of opening) l opening []
   opening_chain = record {
-    chain = record { full_first = opens.kind; partials = tt };
+    chain = record { full_first = zeros.kind; partials = tt };
     few = omega arith;
-    images = (record { cut = inl opens.number; image = subst (λ (k : Kind). IsOfKind k c (table_of opening) l (data_of opening)) (sym opens.kind) opening_image }, tt);
+    images = (record { cut = inl zeros.number; image = subst (λ (k : Kind). IsOfKind k c (table_of opening) l (data_of opening)) (sym zeros.kind) opening_image }, tt);
   }
 
 pub from_opening : (c : List Procedure) (is : List Image) (text : Bytes) (x : Result Recovery RecoverError) → IsRecovery c is text x ⊎ (x ≡ Err refused.NoMemory) → FromOpening c is text x
@@ -243,5 +246,5 @@ from_opening c is text x answer opening v h l history front images =
     let read = fronts_are_read v h l text front in
     let m = read.0 in
     let of_parts : IsHistory c opening v h (m ++ read.1) = subst (IsHistory c opening v h) read.2 history in
-    let told = from_images c is text x answer opening v h m read.1 read.3 opening [] of_parts read.4 images (opening_chain c opening history.opens history.lawful (m ++ read.1)) (inl history.opens.number) in
-    (m, read.1, read.2, read.3, read.4, subst (λ p. Recovers c opening p m read.3 x) history.opens.place told)
+    let told = from_images c is text x answer opening v h m read.1 read.3 opening [] of_parts read.4 images (opening_chain c opening history.opens history.lawful (m ++ read.1)) (inl (parts_of opening history.opens).number) in
+    (m, read.1, read.2, read.3, read.4, subst (λ p. Recovers c opening p m read.3 x) (parts_of opening history.opens).place told)

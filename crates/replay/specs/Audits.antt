@@ -1,5 +1,5 @@
 -- What an audit of a log from its opening answers.
-use Rattle.std.specs.Prelude.{◌≡◌, ◌⊎◌, ℕ, List, length, Ok, Err}
+use Rattle.std.specs.Prelude.{◌≡◌, ◌⊎◌, ℕ, true, false, List, length, Ok, Err}
 use Rattle.std.specs.declared.result.Result.{Result}
 use Rattle.procedure.specs.Bytes.{Bytes}
 use Rattle.procedure.specs.Table.{Table}
@@ -12,20 +12,13 @@ use Rattle.commitlog.specs.declared.formats.LogHeader.{LogHeader}
 use Rattle.commitlog.specs.declared.decoding.Ending.{Ending}
 use Rattle.image.specs.Images.{Image}
 use Rattle.image.specs.Merges.{table_of}
-use Rattle.image.specs.declared.images.Kind.TheVariants.{Full}
+use Rattle.image.specs.Openings.{is_opening}
 use Rattle.replay.specs.Replays.{RunsAgain, Diverges, Overflows, IsFirst, calls_in, is_torn}
 use Rattle.replay.specs.Orders.{IsInOrder}
 use Rattle.replay.specs.Headers.{NamesCatalog, NamesOpening}
 use Rattle.replay.specs.declared.audits.Audited.{Audited}
 use Rattle.replay.specs.declared.errors.AuditError.{AuditError}
 use Rattle.replay.specs.declared.errors.AuditError.TheVariants as refused
-
--- an image to begin from: full, with number, base and place 0
-pub record IsOpening (i : Image) : Type 0 where
-  pub kind : i.kind ≡ Full
-  pub number : i.number ≡ 0
-  pub base : i.base ≡ 0
-  pub place : i.place ≡ 0
 
 abbrev pub IsOutOfOrder : List Record → Record → Type 0
 IsOutOfOrder l r = IsInOrder l r → ⊥
@@ -68,4 +61,4 @@ OfReading c i (Log v h l e) a = OfLog c i v h l e a
 
 -- what is answered, want of memory apart
 abbrev pub IsAudit : List Procedure → Image → Bytes → Result Audited AuditError → Type 0
-IsAudit c i text a = ((IsOpening i → ⊥) × (a ≡ Err refused.NotAnOpening)) ⊎ (IsOpening i × (r : Reading) × IsReading text r × OfReading c i r a)
+IsAudit c i text a = ((is_opening i ≡ false) × (a ≡ Err refused.NotAnOpening)) ⊎ ((is_opening i ≡ true) × (r : Reading) × IsReading text r × OfReading c i r a)

@@ -1,5 +1,5 @@
 -- What recovering promises of a log that was written from an opening on, and of the images of its checkpoints.
-use Rattle.std.specs.Prelude.{◌≡◌, ◌⊎◌, ◌≤◌, ◌<◌, ℕ, List, [], ◌∷◌, ◌++◌, length, take, drop, Ok, Err}
+use Rattle.std.specs.Prelude.{◌≡◌, ◌⊎◌, ◌≤◌, ◌<◌, ℕ, true, List, [], ◌∷◌, ◌++◌, length, take, drop, Ok, Err}
 use Rattle.std.specs.declared.result.Result.{Result}
 use Rattle.std.specs.FinMap as finite
 use Rattle.std.specs.List.{AllByRecursion}
@@ -16,12 +16,12 @@ use Rattle.commitlog.specs.declared.formats.Version.{Version}
 use Rattle.commitlog.specs.declared.formats.LogHeader.{LogHeader}
 use Rattle.commitlog.specs.declared.decoding.Ending.{Ending}
 use Rattle.commitlog.specs.declared.limits.TheConstants.{RECORDS, HEADER_BYTES}
+use Rattle.image.specs.Openings.{is_opening}
 use Rattle.image.specs.Images.{Image, IsLawful, changes_of}
 use Rattle.image.specs.Merges.{IsChain, last_of, table_of}
 use Rattle.image.specs.declared.images.Kind.{Kind}
 use Rattle.image.specs.declared.images.Kind.TheVariants.{Full, Partial}
 use Rattle.image.specs.declared.limits.TheConstants.{ENTRIES, IMAGES}
-use Rattle.replay.specs.Audits.{IsOpening}
 use Rattle.replay.specs.Headers.{NamesCatalog, NamesOpening}
 use Rattle.replay.specs.Recovery.{Recovery}
 use Rattle.replay.specs.Replays.{calls_in, is_torn}
@@ -50,7 +50,7 @@ FrontsAreRead = (v : Version) (h : LogHeader) (l : List Record) (text : Bytes) �
 -- an opening, and a log from it on: each call gave what its run gave and left at most 100,000 keys, and the tokens went
 -- in their cycle
 pub record IsHistory (c : List Procedure) (opening : Image) (v : Version) (h : LogHeader) (l : List Record) : Type 0 where
-  pub opens : IsOpening opening
+  pub opens : is_opening opening ≡ true
   pub lawful : IsLawful opening
   pub catalog : NamesCatalog h c
   pub named : NamesOpening v h opening

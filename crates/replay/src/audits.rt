@@ -4,7 +4,7 @@ ghost use Rattle.std.specs.Prelude.{◌≡◌, ◌≤◌, ◌⊎◌, ◌↔◌, 
 ghost use Rattle.std.specs.declared.result.Result.{Result};
 ghost use Rattle.commitlog.specs.declared.limits.TheConstants.{RECORDS};
 ghost use Rattle.replay.specs.Parts.{AreAudited, audited_at};
-ghost use Rattle.replay.specs.Audits.{IsAudit, IsOpening, NamesBoth, OfLog};
+ghost use Rattle.replay.specs.Audits.{IsAudit, NamesBoth, OfLog};
 ghost use Rattle.replay.specs.Promises.{FrontsPass, IsOneHistory};
 ghost use Rattle.replay.specs.declared.audits.Audited.{Audited};
 ghost use Rattle.replay.specs.declared.errors.AuditError.{AuditError};
@@ -17,7 +17,7 @@ use crate::orders::Order;
 use crate::recovery::is_torn;
 use crate::tables::copy_of_table;
 use commitlog::{Record, StoredLog, read_log};
-use image::{Image, Kind};
+use image::Image;
 use procedure::{Catalog, Table};
 use std::alloc::Allocator;
 
@@ -30,16 +30,6 @@ pub struct Audited {
     pub calls: usize,
     /// Whether less than a record stood at its end.
     pub torn: bool,
-}
-
-/// Whether an image is one to begin from: full, with number, base and place 0.
-fn is_opening<A: Allocator>(image: &Image<A>) -> bool
-    ensures { IsTrue result ↔ IsOpening image.now }
-{
-    match image.kind() {
-        Kind::Full => image.number() == 0 && image.base() == 0 && image.place() == 0,
-        Kind::Partial => false,
-    }
 }
 
 /// Whether the log is one of the catalog and of the opening.
@@ -131,7 +121,7 @@ fn answer<A: Allocator + Clone>(
 ) -> Result<Audited, AuditError>
     ensures { IsAudit catalog.now opening.now log_bytes.now result ⊎ (result ≡ Err refused.NoMemory) }
 {
-    if !is_opening(opening) {
+    if !opening.is_opening() {
         return Err(AuditError::NotAnOpening);
     }
     let log = read_log(alloc.clone()?, log_bytes)?;

@@ -14,6 +14,7 @@ use Rattle.image.specs.declared.images.Kind.{Kind}
 use Rattle.image.specs.declared.images.Kind.TheVariants.{Full, Partial}
 use Rattle.image.specs.Images.{Entry, Image, AllPresent, IsLawful, SuitsKind, changes_of}
 use Rattle.image.specs.Merges.{is_full, table_of}
+use Rattle.image.specs.Openings.{is_opening}
 use Rattle.image.proofs.Joins.{find_below}
 use Rattle.image.proofs.Rising.{by_bytes, parts}
 use Rattle.commitlog.specs.Histories.{last_number}
@@ -35,7 +36,7 @@ use Rattle.steps.proofs.Events.{initial_good}
 use Rattle.steps.proofs.Small.{small_none, small_now}
 use Rattle.steps.specs.Backwards.{after}
 use Rattle.steps.specs.Edits.{shown, versions_in}
-use Rattle.steps.specs.Openings.{IsOpened, is_opening, no_checkpoint, opened_with, with_opened}
+use Rattle.steps.specs.Openings.{IsOpened, no_checkpoint, opened_with, with_opened}
 use Rattle.steps.specs.World.{Version, Versions, Runs, initial, opened, wrote}
 use Rattle.steps.specs.World as machine
 use Rattle.steps.specs.declared.calls.OpenCall.{OpenCall}

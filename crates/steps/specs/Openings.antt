@@ -1,5 +1,5 @@
 -- What a core holds when it was opened.
-use Rattle.std.specs.Prelude.{◌≡◌, ◌==◌, Bool, cond, ◌&&◌, List, [], ◌∷◌, replicate, Some, None}
+use Rattle.std.specs.Prelude.{◌≡◌, cond, List, [], ◌∷◌, replicate, Some, None}
 use Rattle.procedure.specs.Bytes.{Bytes, same}
 use Rattle.procedure.specs.Procedures.{Procedure}
 use Rattle.procedure.specs.Table.{value_at}
@@ -7,14 +7,10 @@ use Rattle.procedure.specs.declared.limits.TheConstants.{SESSIONS}
 use Rattle.phase.specs.declared.phases.Phase.TheVariants.{Rest}
 use Rattle.image.specs.Images.{Entry, Image}
 use Rattle.image.specs.declared.images.Kind.TheVariants.{Full}
-use Rattle.image.specs.Merges.{is_full, table_of}
+use Rattle.image.specs.Merges.{table_of}
 use Rattle.steps.specs.CoreViews.{CheckpointView, CoreView}
 use Rattle.steps.specs.Edits.{versions_in}
 use Rattle.steps.specs.World.{Versions, opened, wrote}
-
--- full, with number, base and place 0
-abbrev pub is_opening : Image → Bool
-is_opening i = is_full i.kind && ((i.number == 0) && ((i.base == 0) && (i.place == 0)))
 
 -- the versions with one entry more
 abbrev pub with_opened : Versions → Entry → Versions

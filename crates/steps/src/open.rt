@@ -5,8 +5,9 @@ ghost use Rattle.procedure.specs.Bytes.{Bytes};
 ghost use Rattle.procedure.specs.Table.{value_at};
 ghost use Rattle.procedure.specs.declared.limits.TheConstants.{SESSIONS};
 ghost use Rattle.image.specs.Merges.{table_of};
+ghost use Rattle.image.specs.Openings.{is_opening};
 ghost use Rattle.steps.specs.Edits.{versions_in};
-ghost use Rattle.steps.specs.Openings.{is_opening, opened_with, with_opened, IsOpened};
+ghost use Rattle.steps.specs.Openings.{opened_with, with_opened, IsOpened};
 ghost use Rattle.steps.specs.Refusals.{Answers, unless};
 ghost use Rattle.steps.specs.World.{opened};
 ghost use Rattle.steps.specs.declared.errors.OpenError.TheVariants as refused;
@@ -18,23 +19,13 @@ use crate::edits::write_key;
 use crate::errors::OpenError;
 use crate::reclaiming::Aside;
 use commitlog::Log;
-use image::{Entry, Image, Kind};
+use image::{Entry, Image};
 use locktable::LockTable;
 use phase::{Active, Phase};
 use procedure::limits::SESSIONS;
 use procedure::{Catalog, NoMemory};
 use record_store::{Changed, Store};
 use std::alloc::Allocator;
-
-/// Whether an image is one to open from: full, with number, base and place 0.
-fn is_opening<A: Allocator>(image: &Image<A>) -> bool
-    ensures { result ≡ is_opening image.now }
-{
-    match image.kind() {
-        Kind::Full => image.number() == 0 && image.base() == 0 && image.place() == 0,
-        Kind::Partial => false,
-    }
-}
 
 /// A record for an entry, or another live version for the record that its key has.
 fn fill_entry<A: Allocator + Clone>(store: &mut Store<A>, entry: &Entry<A>) -> Result<(), NoMemory>
@@ -122,7 +113,7 @@ impl<A: Allocator + Copy> Core<A> {
         ensures opened { IfOk result (λ c. IsOpened catalog opening c) }
         ensures refusal { Answers (unless (is_opening opening) refused.NotAnOpening) refused.NoMemory result }
     {
-        if !is_opening(&opening) {
+        if !opening.is_opening() {
             return Err(OpenError::NotAnOpening);
         }
         match build(alloc, catalog, opening) {
