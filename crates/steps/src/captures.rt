@@ -1,6 +1,6 @@
 //! How the scan of a checkpoint goes, and how its image is finished.
 
-ghost use Rattle.std.specs.Prelude.{◌≡◌, ◌≤◌, ◌++◌, ◌+◌, ℕ, IfOk, None, OnErr, OnOk, IsSome, Some, option_copied, vec_capacity, vec_len};
+ghost use Rattle.std.specs.Prelude.{◌≡◌, ◌≤◌, ◌++◌, ◌+◌, ℕ, IfOk, None, OnErr, OnOk, IsSome, Some, vec_capacity, vec_len};
 ghost use Rattle.phase.specs.declared.phases.Phase.TheVariants.{Capture, Complete, Resolve};
 ghost use Rattle.procedure.specs.Bytes.{Bytes};
 ghost use Rattle.commitlog.specs.Histories.{phase_of};
@@ -18,11 +18,12 @@ ghost use Rattle.steps.specs.declared.errors.CaptureError.TheVariants as capturi
 
 use crate::checkpointing::push_token;
 use crate::cores::Core;
+use crate::edits::copy_of;
 use crate::errors::CaptureError;
 use crate::reclaiming::Aside;
 use image::{Entry, Image, Kind};
 use phase::Phase;
-use procedure::{Key, NoMemory, Value};
+use procedure::{Key, NoMemory};
 use record_store::{Changed, Record, Stable, Store};
 use std::alloc::Allocator;
 use std::mem;
@@ -34,15 +35,6 @@ pub enum Captured {
     Slot,
     /// The scan has no places left.
     Done,
-}
-
-fn copy_of<A: Allocator + Clone>(live: Option<&Value<A>>) -> Result<Option<Value<A>>, NoMemory>
-    ensures { IfOk result (λ copy. copy ≡ option_copied live.entry) }
-{
-    match live {
-        Some(value) => Ok(Some(value.clone()?)),
-        None => Ok(None),
-    }
 }
 
 /// The key whose record a slot holds.

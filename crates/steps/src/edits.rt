@@ -144,6 +144,18 @@ pub(crate) fn found<'a, A: Allocator>(store: &'a Store<A>, key: &Key) -> Option<
     }
 }
 
+/// A copy of what a key holds.
+pub(crate) fn copy_of<A: Allocator + Clone>(
+    held: Option<&Value<A>>,
+) -> Result<Option<Value<A>>, NoMemory>
+    ensures { IfOk result (λ copy. copy ≡ option_copied held.entry) }
+{
+    match held {
+        Some(value) => Ok(Some(value.clone()?)),
+        None => Ok(None),
+    }
+}
+
 /// Whether a key has a record.
 pub(crate) fn has_record<A: Allocator>(store: &Store<A>, key: &Key) -> bool
     ensures { result ≡ is_some (versions_in store.now key.now) }

@@ -17,7 +17,7 @@ ghost use Rattle.steps.specs.declared.errors.FinishError.TheVariants as refused;
 
 use crate::calls::OpenCall;
 use crate::cores::Core;
-use crate::edits::{collect, keep_all, undo_all};
+use crate::edits::{collect, copy_of, keep_all, undo_all};
 use crate::errors::FinishError;
 use crate::give_up::taken;
 use crate::notes::Note;
@@ -141,20 +141,9 @@ fn copy_of_replies<A: Allocator + Clone>(
 {
     let mut copy = Vec::with_capacity(alloc.clone()?, replies.len())?;
     for reply in replies {
-        copy.push_reserved(copy_of_reply(reply)?);
+        copy.push_reserved(copy_of(reply.as_ref())?);
     }
     Ok(copy)
-}
-
-fn copy_of_reply<A: Allocator + Clone>(
-    reply: &Option<Value<A>>,
-) -> Result<Option<Value<A>>, NoMemory>
-    ensures { IfOk result (λ copy. copy ≡ reply.now) }
-{
-    match reply {
-        Some(value) => Ok(Some(value.clone()?)),
-        None => Ok(None),
-    }
 }
 
 /// What a finished call is answered.
