@@ -3,7 +3,9 @@
 set -euo pipefail
 cd "$(dirname "$0")"
 program=../crates/calcdb/out/calcdb
-for script in *.calc; do
-    diff <("$program" run "$script") "${script%.calc}.expected"
-    echo "$script: as expected"
+for script in bank conflict upgrade checkpoint; do
+    diff <("$program" run "$script.calc") "$script.expected"
+    echo "$script.calc: as expected"
 done
+diff <(./tour.sh) tour.expected
+echo "tour.sh: as expected"

@@ -12,7 +12,7 @@ use Rattle.calcdb.specs.Outcomes.{EndsAs, IsFault, Refuses, RefusesScript, Stops
 use Rattle.calcdb.specs.Runs.{Carried, CarriesAll, HasRun}
 use Rattle.calcdb.specs.declared.commands.Command.{Command}
 use Rattle.calcdb.specs.declared.scripts.ScriptFault.TheVariants as script
-use Rattle.calcdb.specs.Scripts.{Script, script_of}
+use Rattle.calcdb.specs.Scripts.{Script, part_of, script_of}
 use Rattle.calcdb.specs.declared.faults.Fault.{Fault}
 use Rattle.calcdb.specs.declared.faults.Fault.TheVariants as fault
 use Rattle.calcdb.specs.declared.scripts.ScriptFault.{ScriptFault}
@@ -40,7 +40,7 @@ module _ (A : Type 0) where
     ends_stopped s (fault.Refused r) lawful reads (inr (first, core, text, opened, run, sent)) = absurd sent
 
 same_by : (source text left : Bytes) (v : Bool) → nat_le (length text) SCRIPT_BYTES ≡ v → source ≡ text ++ left → (length text ≤ SCRIPT_BYTES → left ≡ []) → script_of source ≡ script_of text
-unfolding script_of
+unfolding part_of
 same_by source text left true e parts at_end = ap script_of (parts ∙ ap (λ (l : Bytes). text ++ l) (at_end (leb-true (length text) SCRIPT_BYTES e)) ∙ append-nil text)
 same_by source text left false e parts at_end =
     let long : length source ≡ length text + length left = ap (λ (l : Bytes). length l) parts ∙ length-append text left in

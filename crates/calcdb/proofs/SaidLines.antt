@@ -6,6 +6,7 @@ use Rattle.procedure.specs.Procedures.{Procedure}
 use Rattle.procedure.specs.declared.limits.TheConstants.{PROCEDURES}
 use Rattle.calcdb.specs.Lines.{is_skipped, left_lines}
 use Rattle.calcdb.specs.Scripts.{Block, IsLawfulSaid, Said, after_words, ends_block, in_block, longer_block, open_count, said, whole}
+use Rattle.calcdb.specs.declared.scripts.Part.{Part}
 use Rattle.calcdb.proofs.Lawful.{one_longer, one_more}
 
 pub block_goes_on : (s : Said) (b d : Block) (ws : List Bytes) → ends_block ws ≡ false → longer_block b ws ≡ Some d → in_block s b ws ≡ Some (record s { block = Some d })
@@ -31,6 +32,6 @@ pub in_words : (s : Said) (n : ℕ) (b : Block) (ws : List Bytes) → is_skipped
 unfolding in_block
 in_words s n b ws e is = rw (e, is) refl
 
-pub nothing_left : (s : Said) (n : ℕ) (o : Option Bytes) → o ≡ None → said s n (left_lines o) ≡ whole s
+pub nothing_left : (part : Part) (s : Said) (n : ℕ) (o : Option Bytes) → o ≡ None → said part s n (left_lines o) ≡ whole s
 unfolding said
-nothing_left s n o is = rw is refl
+nothing_left part s n o is = rw is refl

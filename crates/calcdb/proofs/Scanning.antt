@@ -1,5 +1,5 @@
 -- A scan, capture by capture.
-use Rattle.std.proofs.Common.{◌≡◌, ◌<◌, ◌+◌, ◌-◌, ℕ, zero, suc, List, [], ◌∷◌, ◌++◌, Result, Ok, Err, arith, refl, sym, ap, subst, replicate}
+use Rattle.std.proofs.Common.{◌≡◌, ◌+◌, ◌-◌, ℕ, zero, suc, List, [], ◌∷◌, ◌++◌, Result, Ok, Err, arith, refl, sym, ap, subst, replicate}
 use Rattle.std.specs.Prelude.{codes}
 use Rattle.std.proofs.lemmas.List.{replicate_more}
 use Rattle.steps.specs.CoreViews.{CoreView}
@@ -33,16 +33,6 @@ moves core new (Ok Slot) h is = ap (λ (v : CoreView). v.checkpoint.cursor) h.ca
 moves core new (Ok Done) h is = absurd (cc)
 moves core new (Err e) h is = absurd (cc)
 
--- fewer places are left
-pub fewer_left : (core new : CoreView) (r : Result Captured CaptureError) → VisitsAs core new r → r ≡ Ok Slot → new.checkpoint.bound - new.checkpoint.cursor < core.checkpoint.bound - core.checkpoint.cursor
-fewer_left core new (Ok Slot) h is =
-    let on : new.checkpoint.cursor ≡ suc core.checkpoint.cursor = ap (λ (v : CoreView). v.checkpoint.cursor) h.captured.rest in
-    let same : new.checkpoint.bound ≡ core.checkpoint.bound = ap (λ (v : CoreView). v.checkpoint.bound) h.captured.rest in
-    let below = h.captured.below in
-    omega (arith, on, same, below)
-fewer_left core new (Ok Done) h is = absurd (cc)
-fewer_left core new (Err e) h is = absurd (cc)
-
 stays : (core new : CoreView) (r : Result Captured CaptureError) → VisitsAs core new r → r ≡ Ok Done → new.checkpoint.cursor ≡ core.checkpoint.cursor
 stays core new (Ok Slot) h is = absurd (cc)
 stays core new (Ok Done) h is = ap (λ (v : CoreView). v.checkpoint.cursor) h.captured.1
@@ -53,9 +43,6 @@ none_taken A zero r = refl
 none_taken A (suc n) r = none_taken A n r
 
 module _ {A : Type 0} where
-  pub none_visited : (v : CoreView) → Visited A v v
-  none_visited v = record { count = 0; handled = refl; cursor = omega arith }
-
   -- one capture more
   captured_on : (first core new : CoreView) (r : Result Captured CaptureError) (v : Visited A first core) → VisitsAs core new r →
       HandlesAll (captures A v.count ++ event.Capture ∷ []) first new (visits A v.count ++ reply.Capture r ∷ [])

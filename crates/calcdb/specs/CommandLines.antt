@@ -1,28 +1,69 @@
 -- What the words of a command line ask for.
-use Rattle.std.specs.Prelude.{◌≡◌, true, codes, List, Some}
-use Rattle.clap.specs.Walk.{Row, Text, first_of}
+use Rattle.std.specs.Prelude.{◌≡◌, true, codes, fold, List, [], ◌∷◌, map, option_map, Some}
+use Rattle.clap.specs.Walk.{Row, Rule, Text, all_of, first_of}
 use Rattle.clap.specs.Simple.{App, new_app, new_rule, on_top, subcommand_of, with_rule, with_subcommand}
+use Rattle.clap.specs.declared.builder.action.ArgAction.TheVariants.{Append}
 use Rattle.calcdb.specs.declared.command_line.Task.{Task}
-use Rattle.calcdb.specs.declared.command_line.Task.TheVariants.{Load, Run}
+use Rattle.calcdb.specs.declared.command_line.Task.TheVariants.{Load, Merge, Recover, Run, Show}
 
--- the command `run SCRIPT`
+-- an argument that has to be given
+abbrev pub required : Text → Rule
+required name = record (new_rule name) { required = true }
+
+-- one that is given behind a flag, or not at all
+abbrev pub flagged : Text → Text → Rule
+flagged flag name = record (new_rule name) { long = Some flag }
+
+-- one that has to be given, and may be given again
+abbrev pub repeated : Text → Rule
+repeated name = record (required name) { action = Some Append }
+
+-- a command with these arguments
+abbrev pub app : Text → List Rule → App
+app name rules = fold with_rule (new_app name) rules
+
+-- `run SCRIPT [--open IMAGE] [--out DIR]`
 abbrev pub run_app : App
-run_app = with_rule (new_app (codes "run")) (record (new_rule (codes "SCRIPT")) { required = true })
+run_app = app (codes "run") (required (codes "SCRIPT") ∷ flagged (codes "open") (codes "IMAGE") ∷ flagged (codes "out") (codes "DIR") ∷ [])
 
--- the command `load PAIRS OUT`
+-- `load PAIRS OUT`
 abbrev pub load_app : App
-load_app = with_rule (with_rule (new_app (codes "load")) (record (new_rule (codes "PAIRS")) { required = true })) (record (new_rule (codes "OUT")) { required = true })
+load_app = app (codes "load") (required (codes "PAIRS") ∷ required (codes "OUT") ∷ [])
+
+-- `merge OUT IMAGE...`
+abbrev pub merge_app : App
+merge_app = app (codes "merge") (required (codes "OUT") ∷ repeated (codes "IMAGE") ∷ [])
+
+-- `recover SCRIPT LOG OUT IMAGE...`
+abbrev pub recover_app : App
+recover_app = app (codes "recover") (required (codes "SCRIPT") ∷ required (codes "LOG") ∷ required (codes "OUT") ∷ repeated (codes "IMAGE") ∷ [])
+
+-- `show FILE`
+abbrev pub show_app : App
+show_app = app (codes "show") (required (codes "FILE") ∷ [])
 
 -- the program's commands
 abbrev pub calcdb_app : App
 calcdb_app =
     let top = on_top (λ s. record s { subcommand_required = true; has_version = true }) (new_app (codes "calcdb")) in
-    with_subcommand (with_subcommand top run_app.top) load_app.top
+    fold (λ a s. with_subcommand a s.top) top (run_app ∷ load_app ∷ merge_app ∷ recover_app ∷ show_app ∷ [])
 
 -- what a command's name and its matches ask for
 abbrev pub AsksFor : Text × List Row → Task → Type 0
-AsksFor given (Run script) = (given.0 ≡ codes "run") × (first_of (codes "SCRIPT") given.1 ≡ Some script.now)
-AsksFor given (Load pairs out) = (given.0 ≡ codes "load") × (first_of (codes "PAIRS") given.1 ≡ Some pairs.now) × (first_of (codes "OUT") given.1 ≡ Some out.now)
+AsksFor given (Run files) =
+    (given.0 ≡ codes "run") × (first_of (codes "SCRIPT") given.1 ≡ Some files.script.now)
+    × (first_of (codes "IMAGE") given.1 ≡ option_map (λ s. s.now) files.opening)
+    × (first_of (codes "DIR") given.1 ≡ option_map (λ s. s.now) files.folder)
+AsksFor given (Load pairs out) =
+    (given.0 ≡ codes "load") × (first_of (codes "PAIRS") given.1 ≡ Some pairs.now) × (first_of (codes "OUT") given.1 ≡ Some out.now)
+AsksFor given (Merge out images) =
+    (given.0 ≡ codes "merge") × (first_of (codes "OUT") given.1 ≡ Some out.now)
+    × (all_of (codes "IMAGE") given.1 ≡ Some (map (λ s. s.now) images.items))
+AsksFor given (Recover script log out images) =
+    (given.0 ≡ codes "recover") × (first_of (codes "SCRIPT") given.1 ≡ Some script.now)
+    × (first_of (codes "LOG") given.1 ≡ Some log.now) × (first_of (codes "OUT") given.1 ≡ Some out.now)
+    × (all_of (codes "IMAGE") given.1 ≡ Some (map (λ s. s.now) images.items))
+AsksFor given (Show file) = (given.0 ≡ codes "show") × (first_of (codes "FILE") given.1 ≡ Some file.now)
 
 abbrev pub IsTask : List Text → Task → Type 0
 IsTask words task = (given : Text × List Row) × (subcommand_of calcdb_app words ≡ Some given) × AsksFor given task

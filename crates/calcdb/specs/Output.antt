@@ -62,9 +62,13 @@ place_text place count = codes " place " ++ decimal place ++ codes " count " ++ 
 abbrev pub header_text : Kind → (number base place count : ℕ) → Bytes
 header_text kind number base place count = kind_text kind ++ decimal number ++ codes " base " ++ decimal base ++ place_text place count
 
+-- the header line of an image
+abbrev pub header_line : Image → Bytes
+header_line i = header_text i.kind i.number i.base i.place (length i.entries)
+
 -- an image: a line for its header, and one for each entry
 abbrev pub image_text : Image → Bytes
-image_text i = header_text i.kind i.number i.base i.place (length i.entries) ++ entries_text i.entries
+image_text i = header_line i ++ entries_text i.entries
 
 -- a key that was reclaimed
 abbrev pub key_text : Bytes → Bytes

@@ -1,7 +1,6 @@
 -- The table that the pairs of a text make, and the image that it is loaded as.
-use Rattle.std.specs.Prelude.{◌≡◌, ◌⊎◌, ℕ, ◌+◌, ◌&&◌, if◌then◌else◌, nat_lt, nat_le, List, [], ◌∷◌, length, Option, Some, None, is_none, Result, Ok, Err}
+use Rattle.std.specs.Prelude.{◌≡◌, ℕ, ◌+◌, ◌&&◌, if◌then◌else◌, nat_lt, nat_le, List, [], ◌∷◌, length, Option, Some, None, is_none, Result, Ok, Err}
 use Rattle.std.specs.FinMap as map
-use Rattle.std.specs.Io.KnownBytes.{Appends}
 use Rattle.procedure.specs.Bytes.{Bytes}
 use Rattle.procedure.specs.Table.{Table, value_at}
 use Rattle.procedure.specs.declared.limits.TheConstants.{KEY_BYTES, VALUE_BYTES}
@@ -10,9 +9,8 @@ use Rattle.image.specs.declared.limits.TheConstants.{ENTRIES}
 use Rattle.calcdb.specs.Reads.{◌>>=◌}
 use Rattle.calcdb.specs.Lines.{all_pass, first_word, is_allowed, is_skipped, lines, no_word, words}
 use Rattle.calcdb.specs.Values.{value_of}
-use Rattle.calcdb.specs.Output.{header_text}
-use Rattle.calcdb.specs.Outcomes.{fault_text}
-use Rattle.calcdb.specs.Streams.{IsBegun}
+use Rattle.calcdb.specs.Output.{header_line}
+use Rattle.calcdb.specs.Refusing.{FailsAs}
 use Rattle.calcdb.specs.declared.faults.Fault.{Fault}
 use Rattle.calcdb.specs.declared.faults.Fault.TheVariants as fault
 use Rattle.calcdb.specs.declared.faults.Reason.TheVariants as reason
@@ -74,28 +72,19 @@ loaded (Err e) = Err e
 abbrev pub image_of : Bytes → Result Image ScriptFault
 image_of text = loaded (table_of text)
 
--- the header line of an image
-abbrev pub header_line : Image → Bytes
-header_line i = header_text i.kind i.number i.base i.place (length i.entries)
-
--- the fault of a text, or want of memory
+-- the fault of a text; a read may fail and memory may be wanting whatever it says
 abbrev pub IsFault : Result Image ScriptFault → Fault → Type 0
 IsFault says (fault.Line n) = says ≡ Err (Line n)
 IsFault says fault.Size = says ≡ Err Size
 IsFault says (fault.Refused r) = r ≡ reason.NoMemory
-IsFault says fault.Read = ⊥
+IsFault says fault.Read = Unit {0}
 IsFault says fault.Write = ⊥
 IsFault says fault.NoMemory = ⊥
 
--- the line that may be written: the image's header, or that of a fault
-abbrev pub IsLine : Result Image ScriptFault → Bytes → Type 0
-IsLine says text = ((i : Image) × (says ≡ Ok i) × (text ≡ header_line i)) ⊎ ((f : Fault) × IsFault says f × (text ≡ fault_text f))
+-- the header line of the image that is loaded
+abbrev pub IsHeader : Result Image ScriptFault → Bytes → Type 0
+IsHeader says text = (i : Image) × (says ≡ Ok i) × (text ≡ header_line i)
 
--- what went out by the time of a fault: its line; where a write failed a beginning of a line, and where a read failed nothing
+-- how a load fails
 abbrev pub EndsAs : Result Image ScriptFault → Option Bytes → Option Bytes → Fault → Type 0
-EndsAs says old new (fault.Line n) = IsFault says (fault.Line n) × Appends old new (fault_text (fault.Line n))
-EndsAs says old new fault.Size = IsFault says fault.Size × Appends old new (fault_text fault.Size)
-EndsAs says old new (fault.Refused r) = IsFault says (fault.Refused r) × Appends old new (fault_text (fault.Refused r))
-EndsAs says old new fault.Read = Appends old new []
-EndsAs says old new fault.Write = (text : Bytes) × IsLine says text × IsBegun old new text
-EndsAs says old new fault.NoMemory = ⊥
+EndsAs says = FailsAs (IsFault says) (IsHeader says)

@@ -1,6 +1,14 @@
--- The printed names of refused inputs.
-use Rattle.std.specs.Prelude.{◌++◌, codes, decimal}
+-- The printed names of refused inputs, and the refusals of what stands below as such.
+use Rattle.std.specs.Prelude.{◌≡◌, ◌⊎◌, ◌++◌, codes, decimal, Result, Ok, Err}
 use Rattle.procedure.specs.Bytes.{Bytes}
+use Rattle.commitlog.specs.declared.decoding.LogError.{LogError}
+use Rattle.commitlog.specs.declared.decoding.LogError.TheVariants as log
+use Rattle.image.specs.declared.errors.ReadError.{ReadError}
+use Rattle.image.specs.declared.errors.ReadError.TheVariants as read
+use Rattle.image.specs.declared.merges.MergeError.{MergeError}
+use Rattle.image.specs.declared.merges.MergeError.TheVariants as merge
+use Rattle.replay.specs.declared.errors.RecoverError.{RecoverError}
+use Rattle.replay.specs.declared.errors.RecoverError.TheVariants as recover
 use Rattle.calcdb.specs.declared.faults.Reason.{Reason}
 use Rattle.calcdb.specs.declared.faults.Reason.TheVariants.{NotAnImage, BadDigest, BadBlock, BadForm, TooMany, NotFull, NotPartial, Gap, NotALog, Damaged, WrongCatalog, WrongOpening, PlaceOutside, Diverged, NotAnOpening, NoMemory}
 
@@ -21,3 +29,44 @@ reason_text PlaceOutside = codes "place outside"
 reason_text (Diverged p) = codes "diverged " ++ decimal p
 reason_text NotAnOpening = codes "not an opening"
 reason_text NoMemory = codes "no memory"
+
+-- bytes that aren't read as an image
+abbrev pub read_reason : ReadError → Reason
+read_reason read.NotAnImage = NotAnImage
+read_reason read.BadDigest = BadDigest
+read_reason (read.BadBlock j) = BadBlock j
+read_reason read.BadForm = BadForm
+read_reason read.NoMemory = NoMemory
+
+-- images that aren't merged
+abbrev pub merge_reason : MergeError → Reason
+merge_reason merge.TooMany = TooMany
+merge_reason merge.NotFull = NotFull
+merge_reason (merge.NotPartial i) = NotPartial i
+merge_reason (merge.Gap i) = Gap i
+merge_reason merge.NoMemory = NoMemory
+
+-- bytes that aren't read as a log
+abbrev pub log_reason : LogError → Reason
+log_reason log.NotALog = NotALog
+log_reason (log.Damaged i) = Damaged i
+log_reason log.NoMemory = NoMemory
+
+-- a table that isn't recovered
+abbrev pub recover_reason : RecoverError → Reason
+recover_reason recover.TooMany = TooMany
+recover_reason recover.NotFull = NotFull
+recover_reason (recover.NotPartial i) = NotPartial i
+recover_reason (recover.Gap i) = Gap i
+recover_reason recover.NotALog = NotALog
+recover_reason (recover.Damaged i) = Damaged i
+recover_reason recover.WrongCatalog = WrongCatalog
+recover_reason recover.WrongOpening = WrongOpening
+recover_reason recover.PlaceOutside = PlaceOutside
+recover_reason (recover.Diverged p) = Diverged p
+recover_reason recover.NoMemory = NoMemory
+
+-- what is answered is what is said, want of memory apart
+abbrev pub Tells : {X Y : Type 0} → (X → Y) → Result X Reason → Result Y Reason → Type 0
+Tells view (Ok x) says = says ≡ Ok (view x)
+Tells view (Err r) says = (r ≡ NoMemory) ⊎ (says ≡ Err r)

@@ -1,5 +1,5 @@
 -- A script: what its lines say one after another, or the first of them that is faulty.
-use Rattle.std.specs.Prelude.{◌≡◌, ◌⊎◌, ◌≤◌, ℕ, ◌+◌, Bool, true, false, ◌&&◌, ◌||◌, if◌then◌else◌, nat_lt, nat_le, codes, List, [], ◌∷◌, ◌++◌, length, Option, Some, None, is_none, option_map, Result, Ok, Err}
+use Rattle.std.specs.Prelude.{◌≡◌, ◌⊎◌, ◌≤◌, ℕ, ◌+◌, Bool, true, false, not, ◌&&◌, ◌||◌, if◌then◌else◌, nat_lt, nat_le, codes, List, [], ◌∷◌, ◌++◌, length, Option, Some, None, is_none, option_map, Result, Ok, Err}
 use Rattle.std.specs.FinMap as map
 use Rattle.procedure.specs.Bytes.{Bytes}
 use Rattle.procedure.specs.Procedures.{Instruction, Procedure}
@@ -11,6 +11,8 @@ use Rattle.calcdb.specs.Values.{decimal_of}
 use Rattle.calcdb.specs.Instructions.{instruction_of, is_word}
 use Rattle.calcdb.specs.Commands.{Names, command_of, is_name, procedure_of}
 use Rattle.calcdb.specs.declared.commands.Command.{Command}
+use Rattle.calcdb.specs.declared.scripts.Part.{Part}
+use Rattle.calcdb.specs.declared.scripts.Part.TheVariants.{Whole, Procedures}
 use Rattle.calcdb.specs.declared.scripts.ScriptFault.{ScriptFault}
 use Rattle.calcdb.specs.declared.scripts.ScriptFault.TheVariants.{Line, NoMemory, Size}
 use Rattle.calcdb.specs.declared.scripts.TheConstants.{SCRIPT_BYTES}
@@ -129,19 +131,46 @@ open_line s = option_map (λ b. b.line) s.block
 abbrev pub whole : Said → Result Script ScriptFault
 whole s = elim s.block [ None ↦ Ok (record { catalog = s.procedures; commands = s.commands }) | Some b ↦ Err (Line b.line) ]
 
--- the script, where these lines follow what was said; they are numbered from n on
-unfoldable pub said : Said → ℕ → List Bytes → Result Script ScriptFault
-said s n [] = whole s
-said s n (l ∷ ls) = elim (after_line s n l) [ None ↦ Err (Line (blamed (open_line s) n ls)) | Some t ↦ said t (n + 1) ls ]
+abbrev pub begins_block : List Bytes → Bool
+begins_block [] = false
+begins_block (w ∷ ws) = is_word w (codes "proc")
+
+-- a line out of a block that is neither skipped nor begins one: a command, faulty or not
+abbrev pub is_command_line : Said → List Bytes → Bool
+is_command_line s ws = is_none s.block && (not (is_skipped ws) && not (begins_block ws))
+
+-- does the part of a text that is read end before this line?
+abbrev pub ends_before : Part → Said → List Bytes → Bool
+ends_before Whole s ws = false
+ends_before Procedures s ws = is_command_line s ws
+
+-- the script, where these lines follow what was said; they are numbered from n on, and this part of them is read
+unfoldable pub said : Part → Said → ℕ → List Bytes → Result Script ScriptFault
+said part s n [] = whole s
+said part s n (l ∷ ls) =
+    if ends_before part s (words l) then whole s
+    else elim (after_line s n l) [ None ↦ Err (Line (blamed (open_line s) n ls)) | Some t ↦ said part t (n + 1) ls ]
 
 -- what is answered is what is said, want of memory apart
 abbrev pub Tells : {X Y : Type 0} → (X → Y) → Result X ScriptFault → Result Y ScriptFault → Type 0
 Tells view (Ok x) says = says ≡ Ok (view x)
 Tells view (Err e) says = (e ≡ NoMemory) ⊎ (says ≡ Err e)
 
--- the script that a text of at most 4,194,304 bytes is, or its fault
-unfoldable pub script_of : Bytes → Result Script ScriptFault
-script_of text = if nat_le (length text) SCRIPT_BYTES then said nothing_said 1 (lines text) else Err Size
+-- what a part of a text of at most 4,194,304 bytes says, or its fault
+unfoldable pub part_of : Part → Bytes → Result Script ScriptFault
+part_of part text = if nat_le (length text) SCRIPT_BYTES then said part nothing_said 1 (lines text) else Err Size
+
+-- the script that a text is, or its fault
+abbrev pub script_of : Bytes → Result Script ScriptFault
+script_of text = part_of Whole text
+
+abbrev pub catalog_in : Result Script ScriptFault → Result (List Procedure) ScriptFault
+catalog_in (Ok s) = Ok s.catalog
+catalog_in (Err e) = Err e
+
+-- the procedures of a text, or its fault; from its first command on it isn't looked at
+abbrev pub catalog_of : Bytes → Result (List Procedure) ScriptFault
+catalog_of text = catalog_in (part_of Procedures text)
 
 -- a block whose procedure is lawful
 pub record IsLawfulBlock (b : Block) : Type 0 where

@@ -1,79 +1,218 @@
 //! The command line.
 
-ghost use Rattle.std.specs.Prelude.{◌≡◌, IfOk, IfSome, false, map};
+ghost use Rattle.std.specs.Prelude.{◌≡◌, IfOk, Some, codes, false, map, option_map};
 ghost use Rattle.clap.specs.Matches.{found_of};
-ghost use Rattle.clap.specs.Simple.{app_of};
-ghost use Rattle.clap.specs.Walk.{rows_of};
+ghost use Rattle.clap.specs.Simple.{App, app_of};
+ghost use Rattle.clap.specs.Walk.{all_of, first_of, rows_of, rule_of};
 ghost use Rattle.clap.specs.declared.builder.command.Command.TheViews.{out-Command};
-ghost use Rattle.calcdb.specs.CommandLines.{AsksFor, IsTask, calcdb_app, load_app, run_app};
+ghost use Rattle.calcdb.specs.CommandLines as spec;
+ghost use Rattle.calcdb.specs.CommandLines.{AsksFor, IsTask, calcdb_app, load_app, merge_app, recover_app, run_app, show_app};
 
 use clap::error::ErrorKind;
-use clap::{Arg, ArgMatches, Command, Error};
+use clap::{Arg, ArgAction, ArgMatches, Command, Error};
 use std::alloc::{AllocError, Global};
 use std::convert::AsStr;
 
-/// What the program is asked to do.
+/// The files of a run.
 #[derive(Clone, Copy, Debug)]
+pub(crate) struct RunFiles<'a> {
+    pub script: &'a str,
+    /// The image to open from; without one, the empty table.
+    pub opening: Option<&'a str>,
+    /// The folder for the images and the log.
+    pub folder: Option<&'a str>,
+}
+
+/// What the program is asked to do, with the names of files.
+#[derive(Debug, Drop)]
 pub(crate) enum Task<'a> {
-    /// Run the script in this file.
-    Run(&'a str),
-    /// Load the pairs in the first file, and write their image to the second.
-    Load(&'a str, &'a str),
+    /// Run a script.
+    Run(RunFiles<'a>),
+    /// Load pairs, and write their image to `out`.
+    Load {
+        pairs: &'a str,
+        out: &'a str,
+    },
+    /// Merge a chain of images, and write the merged one to `out`.
+    Merge {
+        out: &'a str,
+        images: Vec<&'a str, Global>,
+    },
+    /// Recover a table from a chain of images and a log, with the procedures of a script, and write its
+    /// image to `out`.
+    Recover {
+        script: &'a str,
+        log: &'a str,
+        out: &'a str,
+        images: Vec<&'a str, Global>,
+    },
+    /// Print an image or a log.
+    Show {
+        file: &'a str,
+    },
+}
+
+/// An argument that has to be given.
+fn required<'a>(alloc: Global, name: &'a str, help: &'a str) -> Arg<'a>
+    ensures rule { rule_of result ≡ spec.required name.now }
+    ensures local { result.global ≡ false }
+{
+    Arg::new(alloc, name).required(true).help(help)
+}
+
+/// One that is given behind a flag, or not at all.
+fn flagged<'a>(alloc: Global, flag: &'a str, name: &'a str, help: &'a str) -> Arg<'a>
+    ensures rule { rule_of result ≡ spec.flagged flag.now name.now }
+    ensures local { result.global ≡ false }
+{
+    Arg::new(alloc, name).long(flag).help(help)
+}
+
+/// One that has to be given, and may be given again.
+fn repeated<'a>(alloc: Global, name: &'a str, help: &'a str) -> Arg<'a>
+    ensures rule { rule_of result ≡ spec.repeated name.now }
+    ensures local { result.global ≡ false }
+{
+    required(alloc, name, help).action(ArgAction::Append)
 }
 
 fn described_run<'a>(alloc: Global) -> Result<Command<'a>, AllocError>
     ensures app { IfOk result (λ c. app_of c ≡ run_app) }
     ensures local { IfOk result (λ c. (out-Command c).has_globals ≡ false) }
 {
-    let script = Arg::new(alloc, "SCRIPT")
-        .required(true)
-        .help("the file with the script");
     Command::new(alloc, "run")
         .about("Runs a script, and prints one answer for each command")
-        .arg(script)
+        .arg(required(alloc, "SCRIPT", "the file with the script"))?
+        .arg(flagged(alloc, "open", "IMAGE", "the image to open from"))?
+        .arg(flagged(alloc, "out", "DIR", "the folder for the images and the log"))
 }
 
 fn described_load<'a>(alloc: Global) -> Result<Command<'a>, AllocError>
     ensures app { IfOk result (λ c. app_of c ≡ load_app) }
     ensures local { IfOk result (λ c. (out-Command c).has_globals ≡ false) }
 {
-    let pairs = Arg::new(alloc, "PAIRS")
-        .required(true)
-        .help("the file with the pairs");
-    let out = Arg::new(alloc, "OUT")
-        .required(true)
-        .help("the file for the image");
     Command::new(alloc, "load")
         .about("Makes an opening image of keys and values, and prints its header")
-        .arg(pairs)?
-        .arg(out)
+        .arg(required(alloc, "PAIRS", "the file with the pairs"))?
+        .arg(required(alloc, "OUT", "the file for the image"))
+}
+
+fn described_merge<'a>(alloc: Global) -> Result<Command<'a>, AllocError>
+    ensures app { IfOk result (λ c. app_of c ≡ merge_app) }
+    ensures local { IfOk result (λ c. (out-Command c).has_globals ≡ false) }
+{
+    Command::new(alloc, "merge")
+        .about("Makes one image of a full one and the partial ones after it, and prints its header")
+        .arg(required(alloc, "OUT", "the file for the merged image"))?
+        .arg(repeated(alloc, "IMAGE", "the images, the full one first"))
+}
+
+fn described_recover<'a>(alloc: Global) -> Result<Command<'a>, AllocError>
+    ensures app { IfOk result (λ c. app_of c ≡ recover_app) }
+    ensures local { IfOk result (λ c. (out-Command c).has_globals ≡ false) }
+{
+    Command::new(alloc, "recover")
+        .about(
+            "Makes an opening image of what images and a log hold, and prints what was recovered",
+        )
+        .arg(required(alloc, "SCRIPT", "a script with the procedures"))?
+        .arg(required(alloc, "LOG", "the file with the log"))?
+        .arg(required(alloc, "OUT", "the file for the image"))?
+        .arg(repeated(alloc, "IMAGE", "the images, the full one first"))
+}
+
+fn described_show<'a>(alloc: Global) -> Result<Command<'a>, AllocError>
+    ensures app { IfOk result (λ c. app_of c ≡ show_app) }
+    ensures local { IfOk result (λ c. (out-Command c).has_globals ≡ false) }
+{
+    Command::new(alloc, "show")
+        .about("Prints an image or a log")
+        .arg(required(alloc, "FILE", "the file with the image or the log"))
 }
 
 /// The program's commands.
 fn described<'a>(alloc: Global) -> Result<Command<'a>, AllocError>
     ensures { IfOk result (λ c. app_of c ≡ calcdb_app) }
 {
-    let run = described_run(alloc)?;
-    let load = described_load(alloc)?;
     Command::new(alloc, "calcdb")
         .about("An in-memory key-value engine with stored procedures")
         .version("0.1.0")
         .subcommand_required(true)
-        .subcommand(run)?
-        .subcommand(load)
+        .subcommand(described_run(alloc)?)?
+        .subcommand(described_load(alloc)?)?
+        .subcommand(described_merge(alloc)?)?
+        .subcommand(described_recover(alloc)?)?
+        .subcommand(described_show(alloc)?)
+}
+
+/// Why a command's matches ask for nothing.
+#[derive(Clone, Copy, Debug)]
+enum Unasked {
+    /// No such command, or an argument isn't there.
+    Missing,
+    NoMemory,
+}
+
+impl From<AllocError> for Unasked {
+    fn from(_refused: AllocError) -> Self {
+        Unasked::NoMemory
+    }
+}
+
+/// What was given as this argument.
+fn given_once<'a>(given: &ArgMatches<'a>, name: &str) -> Result<&'a str, Unasked>
+    ensures { IfOk result (λ s. first_of name.now (rows_of (found_of given.now)) ≡ Some s.now) }
+{
+    given.get_str(name).ok_or(Unasked::Missing)
+}
+
+/// All that was given as this argument, in order.
+fn given_all<'a>(
+    alloc: Global,
+    given: &ArgMatches<'a>,
+    name: &str,
+) -> Result<Vec<&'a str, Global>, Unasked>
+    ensures { IfOk result (λ v. all_of name.now (rows_of (found_of given.now)) ≡ Some (map (λ s. s.now) v.items)) }
+{
+    let texts = given.get_strs(name).ok_or(Unasked::Missing)?;
+    Ok(Vec::from_slice(alloc, texts)?)
+}
+
+/// What may have been given as this argument.
+fn given_perhaps<'a>(given: &ArgMatches<'a>, name: &str) -> Option<&'a str>
+    ensures { first_of name.now (rows_of (found_of given.now)) ≡ option_map (λ s. s.now) result }
+{
+    given.get_str(name)
 }
 
 /// What a command of this name asks for with these arguments.
-fn task_of<'a>(name: &str, given: &ArgMatches<'a>) -> Option<Task<'a>>
-    ensures { IfSome result (λ t. AsksFor (name.now, rows_of (found_of given.now)) t) }
+fn task_of<'a>(alloc: Global, name: &str, given: &ArgMatches<'a>) -> Result<Task<'a>, Unasked>
+    ensures { IfOk result (λ t. AsksFor (name.now, rows_of (found_of given.now)) t) }
 {
     match name {
-        "run" => Some(Task::Run(given.get_str("SCRIPT")?)),
-        "load" => {
-            let pairs = given.get_str("PAIRS")?;
-            Some(Task::Load(pairs, given.get_str("OUT")?))
-        }
-        _ => None,
+        "run" => Ok(Task::Run(RunFiles {
+            script: given_once(given, "SCRIPT")?,
+            opening: given_perhaps(given, "IMAGE"),
+            folder: given_perhaps(given, "DIR"),
+        })),
+        "load" => Ok(Task::Load {
+            pairs: given_once(given, "PAIRS")?,
+            out: given_once(given, "OUT")?,
+        }),
+        "merge" => Ok(Task::Merge {
+            out: given_once(given, "OUT")?,
+            images: given_all(alloc, given, "IMAGE")?,
+        }),
+        "recover" => Ok(Task::Recover {
+            script: given_once(given, "SCRIPT")?,
+            log: given_once(given, "LOG")?,
+            out: given_once(given, "OUT")?,
+            images: given_all(alloc, given, "IMAGE")?,
+        }),
+        "show" => Ok(Task::Show {
+            file: given_once(given, "FILE")?,
+        }),
+        _ => Err(Unasked::Missing),
     }
 }
 
@@ -85,8 +224,10 @@ pub(crate) fn job<'a, S: AsStr>(alloc: Global, words: &'a [S]) -> Result<Task<'a
     let mut command = described(alloc)?;
     let matches = command.try_get_matches_from_mut(words)?;
     if let Some((name, given)) = matches.subcommand() {
-        if let Some(task) = task_of(name, given) {
-            return Ok(task);
+        match task_of(alloc, name, given) {
+            Ok(task) => return Ok(task),
+            Err(Unasked::NoMemory) => return Err(AllocError)?,
+            Err(Unasked::Missing) => {}
         }
     }
     Err(command.error(ErrorKind::MissingSubcommand, "no such command")?)

@@ -1,22 +1,21 @@
 //! A run of a script, from its reader to its writer.
 
-ghost use Rattle.std.specs.Prelude.{◌≡◌, ◌⊎◌, ◌++◌, IfErr, IfOk, OnErr, OnOk, Some, true, Ok};
+ghost use Rattle.std.specs.Prelude.{◌≡◌, ◌⊎◌, IfErr, IfOk, OnErr, Some, true, Ok};
 ghost use Rattle.std.specs.Io.KnownBytes.{Appends};
 ghost use Rattle.procedure.specs.Bytes.{Bytes};
 ghost use Rattle.image.specs.Openings.{is_opening};
 ghost use Rattle.steps.specs.Openings.{IsOpened};
 ghost use Rattle.steps.specs.CoreViews.{CoreView};
-ghost use Rattle.calcdb.specs.Outcomes.{EndsAs, HasLine, Refuses, RefusesScript, RunsTo, StopsAs, fault_text};
-ghost use Rattle.calcdb.specs.Reasons.{reason_text};
+ghost use Rattle.calcdb.specs.Outcomes.{EndsAs, HasLine, Refuses, RefusesScript, RunsTo, StopsAs};
 ghost use Rattle.calcdb.specs.Scripts.{script_of};
 ghost use Rattle.calcdb.specs.Runs.{Carried, CarriesAll};
 ghost use Rattle.calcdb.specs.declared.faults.Fault.TheVariants as fault;
 
 use crate::faults::{Fault, Reason};
-use crate::output::{push_decimal, push_text};
+use crate::refusals::{push_fault, say};
 use crate::run::run_commands;
 use crate::scripts::{Script, ScriptFault, read_script};
-use crate::streams::{ReadError, WriteError, read_text, write_out};
+use crate::streams::{ReadError, read_text};
 use image::Image;
 use procedure::NoMemory;
 use std::alloc::Allocator;
@@ -30,51 +29,19 @@ pub(crate) struct Ran<A: Allocator> {
     pub images: Vec<Image<A>, A>,
 }
 
-/// A reason's name, behind what is there.
-fn push_reason<A: Allocator + Clone>(line: &mut Vec<u8, A>, reason: Reason) -> Result<(), NoMemory>
-    ensures { OnOk result (line.new.items ≡ line.old.items ++ reason_text reason) }
-{
-    let alloc = line.allocator().clone()?;
-    let name = reason.to_string(alloc)?;
-    push_text(line, name.as_str().as_bytes())
-}
-
-/// The one line of a fault, behind what is there; nothing where it has none.
-pub(crate) fn push_fault<A: Allocator + Clone>(
-    line: &mut Vec<u8, A>,
-    fault: &Fault,
-) -> Result<(), NoMemory>
-    ensures { OnOk result (line.new.items ≡ line.old.items ++ fault_text fault.now) }
-{
-    match fault {
-        Fault::Line(number) => {
-            push_text(line, b"fault line ")?;
-            push_decimal(line, *number)?;
-            push_text(line, b"\n")
-        }
-        Fault::Size => push_text(line, b"fault size\n"),
-        Fault::Refused(reason) => {
-            push_text(line, b"refused ")?;
-            push_reason(line, *reason)?;
-            push_text(line, b"\n")
-        }
-        Fault::Read | Fault::Write | Fault::NoMemory => Ok(()),
-    }
-}
-
 /// Writes the one line of a fault, which is the answer unless that fails.
-fn refuse<W: Write, A: Allocator + Clone>(alloc: A, writer: &mut W, fault: Fault) -> Fault
+pub(crate) fn refuse<W: Write, A: Allocator + Clone>(
+    alloc: A,
+    writer: &mut W,
+    fault: Fault,
+) -> Fault
     requires { HasLine fault }
     ensures { Refuses fault (W.contents writer.old) (W.contents writer.new) result }
 {
     let mut line = Vec::new(alloc);
     match push_fault(&mut line, &fault) {
-        Ok(()) => {}
-        Err(NoMemory) => return Fault::NoMemory,
-    }
-    match write_out(writer, line.as_slice()) {
-        Ok(()) => fault,
-        Err(WriteError) => Fault::Write,
+        Ok(()) => say(writer, line.as_slice(), fault),
+        Err(NoMemory) => Fault::NoMemory,
     }
 }
 

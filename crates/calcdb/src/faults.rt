@@ -1,12 +1,20 @@
 //! Why a command of the program ends early.
 
-ghost use Rattle.std.specs.Prelude.{Some};
+ghost use Rattle.std.specs.Prelude.{◌≡◌, Some};
+ghost use Rattle.calcdb.specs.declared.faults.Fault.TheVariants as fault;
+ghost use Rattle.calcdb.specs.declared.faults.Reason.TheVariants as reason;
 
+use crate::scripts::ScriptFault;
+use commitlog::LogError;
+use image::{MergeError, ReadError};
+use procedure::NoMemory;
+use replay::RecoverError;
+use std::alloc::{AllocError, AllocFailed};
 use std::error::Error;
 use std::fmt;
 
-/// Why a run ends before its last command was answered, or a text isn't loaded. At `Line`, `Size` and
-/// `Refused` the one line that says so was written first.
+/// Why a run ends before its last command was answered, or another command isn't done. At `Line`, `Size`
+/// and `Refused` the one line that says so was written first.
 #[derive(Debug, Drop, thiserror::Error)]
 pub(crate) enum Fault {
     #[error("a read failed")]
@@ -23,6 +31,29 @@ pub(crate) enum Fault {
     Size,
     #[error("refused {0}")]
     Refused(Reason),
+}
+
+impl From<ScriptFault> for Fault {
+    ghost use Rattle.calcdb.specs.Refusing.{text_fault};
+
+    ghost from_gives = { λ e f. f ≡ text_fault e };
+
+    /// The fault of a text; want of memory for it is said in a line.
+    fn from(fault: ScriptFault) -> Self {
+        match fault {
+            ScriptFault::Line(number) => Fault::Line(number),
+            ScriptFault::Size => Fault::Size,
+            ScriptFault::NoMemory => Fault::Refused(Reason::NoMemory),
+        }
+    }
+}
+
+impl From<Reason> for Fault {
+    ghost from_gives = { λ r f. f ≡ fault.Refused r };
+
+    fn from(refused: Reason) -> Self {
+        Fault::Refused(refused)
+    }
 }
 
 /// Why an input is refused. The variants with a number name an image of a chain, a record of a log, a
@@ -75,3 +106,95 @@ impl fmt::Display for Reason {
 }
 
 impl Error for Reason {}
+
+impl From<ReadError> for Reason {
+    ghost use Rattle.calcdb.specs.Reasons.{read_reason};
+
+    ghost from_gives = { λ e r. r ≡ read_reason e };
+
+    fn from(refused: ReadError) -> Self {
+        match refused {
+            ReadError::NotAnImage => Reason::NotAnImage,
+            ReadError::BadDigest => Reason::BadDigest,
+            ReadError::BadBlock(block) => Reason::BadBlock(block),
+            ReadError::BadForm => Reason::BadForm,
+            ReadError::NoMemory => Reason::NoMemory,
+        }
+    }
+}
+
+impl From<MergeError> for Reason {
+    ghost use Rattle.calcdb.specs.Reasons.{merge_reason};
+
+    ghost from_gives = { λ e r. r ≡ merge_reason e };
+
+    fn from(refused: MergeError) -> Self {
+        match refused {
+            MergeError::TooMany => Reason::TooMany,
+            MergeError::NotFull => Reason::NotFull,
+            MergeError::NotPartial(image) => Reason::NotPartial(image),
+            MergeError::Gap(image) => Reason::Gap(image),
+            MergeError::NoMemory => Reason::NoMemory,
+        }
+    }
+}
+
+impl From<LogError> for Reason {
+    ghost use Rattle.calcdb.specs.Reasons.{log_reason};
+
+    ghost from_gives = { λ e r. r ≡ log_reason e };
+
+    fn from(refused: LogError) -> Self {
+        match refused {
+            LogError::NotALog => Reason::NotALog,
+            LogError::Damaged(index) => Reason::Damaged(index),
+            LogError::NoMemory => Reason::NoMemory,
+        }
+    }
+}
+
+impl From<RecoverError> for Reason {
+    ghost use Rattle.calcdb.specs.Reasons.{recover_reason};
+
+    ghost from_gives = { λ e r. r ≡ recover_reason e };
+
+    fn from(refused: RecoverError) -> Self {
+        match refused {
+            RecoverError::TooMany => Reason::TooMany,
+            RecoverError::NotFull => Reason::NotFull,
+            RecoverError::NotPartial(image) => Reason::NotPartial(image),
+            RecoverError::Gap(image) => Reason::Gap(image),
+            RecoverError::NotALog => Reason::NotALog,
+            RecoverError::Damaged(index) => Reason::Damaged(index),
+            RecoverError::WrongCatalog => Reason::WrongCatalog,
+            RecoverError::WrongOpening => Reason::WrongOpening,
+            RecoverError::PlaceOutside => Reason::PlaceOutside,
+            RecoverError::Diverged(place) => Reason::Diverged(place),
+            RecoverError::NoMemory => Reason::NoMemory,
+        }
+    }
+}
+
+impl From<NoMemory> for Reason {
+    ghost from_gives = { λ _ r. r ≡ reason.NoMemory };
+
+    fn from(_refused: NoMemory) -> Self {
+        Reason::NoMemory
+    }
+}
+
+impl From<AllocError> for Reason {
+    ghost from_gives = { λ _ r. r ≡ reason.NoMemory };
+
+    fn from(_refused: AllocError) -> Self {
+        Reason::NoMemory
+    }
+}
+
+impl<T: Drop> From<AllocFailed<T>> for Reason {
+    ghost from_gives = { λ _ r. r ≡ reason.NoMemory };
+
+    fn from(_refused: AllocFailed<T>) -> Self {
+        Reason::NoMemory
+    }
+}

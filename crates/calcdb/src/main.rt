@@ -1,16 +1,22 @@
-//! The program `calcdb`: it runs scripts of calls and checkpoints on an engine's core, and loads pairs
-//! as images.
+//! The program `calcdb`: it runs scripts of calls and checkpoints on an engine's core, loads pairs as
+//! images, merges images, recovers tables from images and logs, and prints both.
 //!
 //! The definitions are in `specs/`: the text of a script (`Lines`, `Values`, `Instructions`,
 //! `Commands`, `Scripts`), the text of answers (`Output`, `Reasons`), what commands do to a core
-//! (`Runs`), how a run ends (`Outcomes`), and the image of a text of pairs (`Pairs`).
+//! (`Runs`), how a run ends (`Outcomes`), the image of a text of pairs (`Pairs`), what files of images
+//! say, merged and recovered with a log (`ImageFiles`, `Merging`, `Recovering`, `OwnFiles`), what a file
+//! prints (`Showing`), how these commands end (`Refusing`), and the command line (`CommandLines`).
 #![tactic(auto)]
 
 #[cfg(test)]
 mod call_growth_tests;
 #[cfg(test)]
+mod catalog_tests;
+#[cfg(test)]
 mod checkpoint_tests;
 mod command_line;
+#[cfg(test)]
+mod command_line_tests;
 mod commands;
 #[cfg(test)]
 mod device_tests;
@@ -19,17 +25,28 @@ mod devices;
 mod engine;
 #[cfg(test)]
 mod example_tests;
+mod failures;
 mod faults;
+#[cfg(test)]
+mod file_tests;
+mod files;
 #[cfg(test)]
 mod growth_tests;
 #[cfg(test)]
 mod growths;
+mod image_files;
 #[cfg(test)]
 mod image_growth_tests;
 mod instructions;
 #[cfg(test)]
 mod large_tests;
+mod laws;
 mod lines;
+mod merge_files;
+#[cfg(test)]
+mod merge_tests;
+#[cfg(test)]
+mod opening_tests;
 mod output;
 mod pairs;
 #[cfg(test)]
@@ -37,8 +54,20 @@ mod pairs_tests;
 mod program;
 #[cfg(test)]
 mod program_tests;
+mod recover_files;
+#[cfg(test)]
+mod recover_refusal_tests;
+#[cfg(test)]
+mod recover_tests;
+mod refusals;
 mod run;
+mod run_folder;
+#[cfg(test)]
+mod run_folder_tests;
 mod scripts;
+mod show;
+#[cfg(test)]
+mod show_tests;
 mod streams;
 #[cfg(test)]
 mod tests;

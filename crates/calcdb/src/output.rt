@@ -2,12 +2,14 @@
 
 ghost use Rattle.std.specs.Prelude.{◌≡◌, ◌++◌, OnOk, codes, decimal};
 ghost use Rattle.hex.specs.Hex.{encode_lower};
+ghost use Rattle.phase.specs.Phases.{phase_text};
 ghost use Rattle.calcdb.specs.Lines.{all_pass};
 ghost use Rattle.calcdb.specs.Output as spec;
 
 use byteorder::{BigEndian, ByteOrder};
 use image::{Entry, Image, Kind};
 use itoa::Buffer;
+use phase::Phase;
 use procedure::outcomes::COMMITTED;
 use procedure::{NoMemory, Value};
 use std::alloc::Allocator;
@@ -83,7 +85,7 @@ fn push_cell<A: Allocator + Clone, B: Allocator>(
 }
 
 /// Each reply behind a space.
-fn push_replies<A: Allocator + Clone, B: Allocator>(
+pub(crate) fn push_replies<A: Allocator + Clone, B: Allocator>(
     out: &mut Vec<u8, A>,
     replies: &[Option<Value<B>>],
 ) -> Result<(), NoMemory>
@@ -96,7 +98,7 @@ fn push_replies<A: Allocator + Clone, B: Allocator>(
     Ok(())
 }
 
-fn push_outcome<A: Allocator>(out: &mut Vec<u8, A>, outcome: u8) -> Result<(), NoMemory>
+pub(crate) fn push_outcome<A: Allocator>(out: &mut Vec<u8, A>, outcome: u8) -> Result<(), NoMemory>
     ensures { OnOk result (out.new.items ≡ out.old.items ++ spec.outcome_text outcome) }
 {
     if outcome == COMMITTED {
@@ -104,6 +106,19 @@ fn push_outcome<A: Allocator>(out: &mut Vec<u8, A>, outcome: u8) -> Result<(), N
     } else {
         push_text(out, b" aborted ")?;
         push_decimal(out, u64::from(outcome))
+    }
+}
+
+/// The name of a phase.
+pub(crate) fn phase_name(phase: Phase) -> &'static [u8]
+    ensures { result.now ≡ phase_text phase }
+{
+    match phase {
+        Phase::Rest => b"rest",
+        Phase::Prepare => b"prepare",
+        Phase::Resolve => b"resolve",
+        Phase::Capture => b"capture",
+        Phase::Complete => b"complete",
     }
 }
 
@@ -133,7 +148,7 @@ pub(crate) fn push_refusal<A: Allocator>(out: &mut Vec<u8, A>, name: &[u8]) -> R
 }
 
 /// The line of an entry of an image: the key, and its value or `gone`.
-fn push_entry<A: Allocator + Clone, B: Allocator>(
+pub(crate) fn push_entry<A: Allocator + Clone, B: Allocator>(
     out: &mut Vec<u8, A>,
     entry: &Entry<B>,
 ) -> Result<(), NoMemory>
@@ -194,8 +209,8 @@ fn push_place<A: Allocator>(out: &mut Vec<u8, A>, place: u64, count: u64) -> Res
     push_text(out, b"\n")
 }
 
-/// The header line of an image.
-pub(crate) fn push_header<A: Allocator>(
+/// The header line of an image with these parts.
+fn push_header<A: Allocator>(
     out: &mut Vec<u8, A>,
     kind: Kind,
     number: u64,
@@ -212,6 +227,23 @@ pub(crate) fn push_header<A: Allocator>(
     push_place(out, place, count)
 }
 
+/// The header line of an image.
+pub(crate) fn push_header_line<A: Allocator, B: Allocator>(
+    out: &mut Vec<u8, A>,
+    image: &Image<B>,
+) -> Result<(), NoMemory>
+    ensures { OnOk result (out.new.items ≡ out.old.items ++ spec.header_line image.now) }
+{
+    push_header(
+        out,
+        image.kind(),
+        image.number(),
+        image.base(),
+        image.place(),
+        image.entries().len() as u64,
+    )
+}
+
 /// The header line of an image, and a line for each entry.
 pub(crate) fn push_image<A: Allocator + Clone, B: Allocator>(
     out: &mut Vec<u8, A>,
@@ -219,17 +251,8 @@ pub(crate) fn push_image<A: Allocator + Clone, B: Allocator>(
 ) -> Result<(), NoMemory>
     ensures { OnOk result (out.new.items ≡ out.old.items ++ spec.image_text image.now) }
 {
-    let entries = image.entries();
-    push_header(
-        out,
-        image.kind(),
-        image.number(),
-        image.base(),
-        image.place(),
-        entries.len() as u64,
-    )?;
-    push_entries(out, entries)?;
-    Ok(())
+    push_header_line(out, image)?;
+    push_entries(out, image.entries())
 }
 
 /// A line of a word and a number.

@@ -1,31 +1,31 @@
 //! Texts of pairs, which are loaded as opening images.
 
-ghost use Rattle.std.specs.Prelude.{◌≡◌, ◌⊎◌, ◌<◌, ◌≤◌, ◌+◌, ◌++◌, Err, IfErr, IfOk, IfSome, Ok, OnOk, Some, length, option_map, Result};
+ghost use Rattle.std.specs.Prelude.{◌≡◌, ◌⊎◌, ◌<◌, ◌≤◌, ◌+◌, Err, IfErr, IfOk, IfSome, Ok, Some, length, option_map, Result};
 ghost use Rattle.std.specs.FinMap as map;
 ghost use Rattle.std.specs.Io.KnownBytes.{Appends};
 ghost use Rattle.procedure.specs.Bytes.{Bytes};
 ghost use Rattle.image.specs.Images.{Image as SpecImage};
 ghost use Rattle.image.specs.declared.limits.TheConstants.{ENTRIES};
 ghost use Rattle.calcdb.specs.Lines.{left_lines, lines, words};
-ghost use Rattle.calcdb.specs.Outcomes.{fault_text};
+ghost use Rattle.calcdb.specs.Outcomes.{HasLine};
+ghost use Rattle.calcdb.specs.Output.{header_line};
 ghost use Rattle.calcdb.specs.Pairs as spec;
-ghost use Rattle.calcdb.specs.Pairs.{EndsAs, IsFault, image_of, header_line};
+ghost use Rattle.calcdb.specs.Pairs.{EndsAs, IsFault, image_of};
 ghost use Rattle.calcdb.specs.Reads.{Gives};
 ghost use Rattle.calcdb.specs.Scripts.{Tells};
 ghost use Rattle.calcdb.specs.declared.scripts.ScriptFault.{ScriptFault as SpecFault};
 ghost use Rattle.calcdb.specs.declared.scripts.ScriptFault.TheVariants as script_fault;
 
-use crate::engine::push_fault;
 use crate::faults::{Fault, Reason};
 use crate::lines::{end_of, is_allowed, is_skipped, line_at, without_return, word_at};
-use crate::output::push_header;
+use crate::refusals::{refuse, write_header};
 use crate::scripts::{SCRIPT_BYTES, ScriptFault};
-use crate::streams::{ReadError, WriteError, read_text, write_out};
+use crate::streams::{ReadError, read_text};
 use crate::unread::Unread;
 use crate::values::value_of;
 use image::limits::ENTRIES;
 use image::{Image, OpeningError};
-use procedure::{Key, KeyMap, NoMemory, Table, Value};
+use procedure::{Key, KeyMap, Table, Value};
 use std::alloc::Allocator;
 use std::io::{Read, Write};
 
@@ -161,78 +161,13 @@ fn read_image<A: Allocator + Copy>(alloc: A, text: &[u8]) -> Result<Image<A>, Sc
 
 /// The fault of a text, in the words of the program.
 fn fault_of_text(fault: ScriptFault) -> Fault
-    ensures { (says : Result SpecImage SpecFault) → (fault ≡ script_fault.NoMemory) ⊎ (says ≡ Err fault) → IsFault says result }
+    ensures fault { (says : Result SpecImage SpecFault) → (fault ≡ script_fault.NoMemory) ⊎ (says ≡ Err fault) → IsFault says result }
+    ensures has_line { HasLine result }
 {
     match fault {
         ScriptFault::Line(number) => Fault::Line(number),
         ScriptFault::Size => Fault::Size,
         ScriptFault::NoMemory => Fault::Refused(Reason::NoMemory),
-    }
-}
-
-/// Writes the one line of a fault, which is the answer unless that fails.
-fn write_fault<W: Write>(writer: &mut W, line: &[u8], fault: Fault) -> Fault
-    requires { line.now ≡ fault_text fault }
-    ensures { (says : Result SpecImage SpecFault) → IsFault says fault → EndsAs says (W.contents writer.old) (W.contents writer.new) result }
-{
-    match write_out(writer, line) {
-        Ok(()) => fault,
-        Err(WriteError) => Fault::Write,
-    }
-}
-
-/// Writes the one line of a fault. The line that says that memory is wanting takes none.
-pub(crate) fn refuse<W: Write, A: Allocator + Clone>(
-    alloc: A,
-    writer: &mut W,
-    fault: Fault,
-) -> Fault
-    ensures { (says : Result SpecImage SpecFault) → IsFault says fault → EndsAs says (W.contents writer.old) (W.contents writer.new) result }
-{
-    let mut line = Vec::new(alloc);
-    match push_fault(&mut line, &fault) {
-        Ok(()) => write_fault(writer, line.as_slice(), fault),
-        Err(NoMemory) => {
-            let refused = Fault::Refused(Reason::NoMemory);
-            write_fault(writer, b"refused no memory\n", refused)
-        }
-    }
-}
-
-/// The header line of an image, behind what is there.
-fn push_header_line<A: Allocator, B: Allocator>(
-    out: &mut Vec<u8, A>,
-    image: &Image<B>,
-) -> Result<(), NoMemory>
-    ensures { OnOk result (out.new.items ≡ out.old.items ++ header_line image.now) }
-{
-    push_header(
-        out,
-        image.kind(),
-        image.number(),
-        image.base(),
-        image.place(),
-        image.entries().len() as u64,
-    )
-}
-
-/// Writes the header line of an image.
-fn write_header<W: Write, A: Allocator + Copy>(
-    alloc: A,
-    writer: &mut W,
-    image: &Image<A>,
-) -> Result<(), Fault>
-    ensures ok { OnOk result (Appends (W.contents writer.old) (W.contents writer.new) (header_line image.now)) }
-    ensures err { IfErr result (λ f. EndsAs (Ok image.now) (W.contents writer.old) (W.contents writer.new) f) }
-{
-    let mut line = Vec::new(alloc);
-    match push_header_line(&mut line, image) {
-        Ok(()) => {}
-        Err(NoMemory) => return Err(refuse(alloc, writer, Fault::Refused(Reason::NoMemory))),
-    }
-    match write_out(writer, line.as_slice()) {
-        Ok(()) => Ok(()),
-        Err(WriteError) => Err(Fault::Write),
     }
 }
 
@@ -245,12 +180,13 @@ fn load_text<W: Write, A: Allocator + Copy>(
     ensures ok { IfOk result (λ i. (image_of text.now ≡ Ok i) × Appends (W.contents writer.old) (W.contents writer.new) (header_line i)) }
     ensures err { IfErr result (λ f. EndsAs (image_of text.now) (W.contents writer.old) (W.contents writer.new) f) }
 {
-    match read_image(alloc, text) {
-        Ok(image) => match write_header(alloc, writer, &image) {
-            Ok(()) => Ok(image),
-            Err(fault) => Err(fault),
-        },
-        Err(fault) => Err(refuse(alloc, writer, fault_of_text(fault))),
+    let image = match read_image(alloc, text) {
+        Ok(image) => image,
+        Err(fault) => return Err(refuse(alloc, writer, fault_of_text(fault))),
+    };
+    match write_header(alloc, writer, &image) {
+        Ok(()) => Ok(image),
+        Err(fault) => Err(fault),
     }
 }
 

@@ -1,192 +1,262 @@
 //! The program's work, apart from the process that it runs in.
 
-use crate::command_line::{Task, job};
+use crate::command_line::{RunFiles, Task, job};
+use crate::engine;
 use crate::engine::run_script;
+use crate::failures::{Failure, OutFile};
 use crate::faults::{Fault, Reason};
-use crate::pairs::{load, refuse};
+use crate::files::{flush, input_of, read_file, read_files, write_image};
+use crate::merge_files::merge_files;
+use crate::pairs::load;
+use crate::recover_files::recover_files;
+use crate::refusals::refuse;
+use crate::run_folder::write_run;
+use crate::show::show;
 use clap::Error;
 use clap::error::ErrorKind;
-use image::{Image, Kind, WriteError, seal_to};
+use image::{Image, Kind, ReadError, ReadFromError, read_from};
 use std::alloc::Allocator;
 use std::convert::AsStr;
-use std::io::{self, BufWriter, Read, Write};
+use std::env;
+use std::io::{self, BufWriter, Write};
 use std::rt::{Env, Files};
-use std::{env, fs};
 
-/// How messages name the standard output.
-const OUTPUT: &str = "output";
-
-/// How the program's work ended.
-#[derive(Clone, Copy, Debug, PartialEq, Eq)]
-enum Ended<'a> {
-    Done,
-    /// One line on standard output says why.
-    Refused,
-    /// The command line is faulty.
-    Usage,
-    /// Help or the version was asked for.
-    Shown,
-    /// The file of this name.
-    CannotRead(&'a str),
-    /// The file of this name, or the standard output.
-    CannotWrite(&'a str),
-    NoMemory,
-}
-
-impl<'a> Ended<'a> {
-    /// The end that a fault makes, where the input is a file of this name.
-    fn of_fault(fault: Fault, input: &'a str) -> Ended<'a> {
-        match fault {
-            Fault::Read => Ended::CannotRead(input),
-            Fault::Write => Ended::CannotWrite(OUTPUT),
-            Fault::NoMemory => Ended::NoMemory,
-            Fault::Line(_) | Fault::Size | Fault::Refused(_) => Ended::Refused,
-        }
-    }
-
-    fn status(self) -> u8 {
-        match self {
-            Ended::Done | Ended::Shown => 0,
-            Ended::Usage => 2,
-            Ended::Refused | Ended::CannotRead(_) | Ended::CannotWrite(_) | Ended::NoMemory => 1,
-        }
-    }
-}
-
-/// Runs the script that a reader gives, from the empty opening.
-fn run_from<I: Read, O: Write, A: Allocator + Copy>(
-    alloc: A,
-    reader: &mut I,
-    out: &mut O,
-) -> Result<(), Fault> {
-    let Some(opening) = Image::new(Kind::Full, 0, 0, 0, Vec::new(alloc)) else {
-        return Err(Fault::NoMemory);
-    };
-    match run_script(alloc, reader, out, opening) {
-        Ok(_) => Ok(()),
-        Err(fault) => Err(fault),
-    }
-}
-
-fn run_file<'a, R: Files, O: Write, A: Allocator + Copy>(
+/// The image of a file. Where it is refused, one line on standard output says why.
+fn read_opening<'a, R: Files, O: Write, A: Allocator + Copy>(
     alloc: A,
     rt: &R,
     name: &'a str,
     out: &mut O,
-) -> Ended<'a>
+) -> Result<Image<A>, Failure<'a>>
 where
     R::File: Drop,
 {
-    let Ok(mut file) = fs::open(rt, name) else {
-        return Ended::CannotRead(name);
-    };
-    match run_from(alloc, &mut file, out) {
-        Ok(()) => Ended::Done,
-        Err(fault) => Ended::of_fault(fault, name),
+    match read_from(alloc, &mut input_of(rt, name)) {
+        Ok(image) => Ok(image),
+        Err(ReadFromError::ReadFault) => Err(Failure::CannotRead(name)),
+        Err(ReadFromError::Image(ReadError::NoMemory)) => Err(Failure::NoMemory),
+        Err(ReadFromError::Image(refused)) => {
+            let fault = Fault::Refused(Reason::from(refused));
+            Err(Failure::of_fault(engine::refuse(alloc, out, fault), name))
+        }
     }
 }
 
-/// Makes a file of an image's bytes. Without memory one line on standard output says so.
-fn write_image<'a, R: Files, O: Write, A: Allocator + Copy>(
+/// The image of the empty table.
+fn empty_opening<'a, A: Allocator>(alloc: A) -> Result<Image<A>, Failure<'a>> {
+    Image::new(Kind::Full, 0, 0, 0, Vec::new(alloc)).ok_or(Failure::NoMemory)
+}
+
+/// Runs a script, and at its end writes its images and its log where that is asked for. The image to
+/// open from is read and checked before the script is looked for.
+fn run_task<'a, R: Files, O: Write, A: Allocator + Copy>(
     alloc: A,
     rt: &R,
-    image: &Image<A>,
-    name: &'a str,
+    files: RunFiles<'a>,
     out: &mut O,
-) -> Ended<'a>
+) -> Result<(), Failure<'a>>
 where
     R::File: Drop,
 {
-    let Ok(mut file) = fs::create(rt, name) else {
-        return Ended::CannotWrite(name);
+    let opening = match files.opening {
+        Some(name) => read_opening(alloc, rt, name, out)?,
+        None => empty_opening(alloc)?,
     };
-    match seal_to(alloc, &mut file, image) {
-        Ok(()) => match file.flush() {
-            Ok(()) => Ended::Done,
-            Err(_) => Ended::CannotWrite(name),
-        },
-        Err(WriteError::WriteFault) => Ended::CannotWrite(name),
-        Err(WriteError::NoMemory) => {
-            let refused = Fault::Refused(Reason::NoMemory);
-            Ended::of_fault(refuse(alloc, out, refused), name)
+    let mut script = input_of(rt, files.script);
+    let ran = match run_script(alloc, &mut script, out, opening) {
+        Ok(ran) => ran,
+        Err(fault) => return Err(Failure::of_fault(fault, files.script)),
+    };
+    flush(out, Failure::CannotPrint)?;
+    match files.folder {
+        Some(folder) => write_run(alloc, rt, folder, &ran),
+        None => Ok(()),
+    }
+}
+
+/// Makes a file of the image that a command made, once its standard output is out.
+fn write_made<'a, R: Files, O: Write, A: Allocator + Copy>(
+    alloc: A,
+    rt: &R,
+    made: Result<Image<A>, Fault>,
+    source: &'a str,
+    name: &'a str,
+    out: &mut O,
+) -> Result<(), Failure<'a>>
+where
+    R::File: Drop,
+{
+    match made {
+        Ok(image) => {
+            flush(out, Failure::CannotPrint)?;
+            write_image(alloc, rt, OutFile::Named(name), &image)
         }
+        Err(fault) => Err(Failure::of_fault(fault, source)),
     }
 }
 
 /// Loads a file of pairs, and makes a file of their image.
-fn load_file<'a, R: Files, O: Write, A: Allocator + Copy>(
+fn load_task<'a, R: Files, O: Write, A: Allocator + Copy>(
     alloc: A,
     rt: &R,
     pairs: &'a str,
     name: &'a str,
     out: &mut O,
-) -> Ended<'a>
+) -> Result<(), Failure<'a>>
 where
     R::File: Drop,
 {
-    let Ok(mut file) = fs::open(rt, pairs) else {
-        return Ended::CannotRead(pairs);
-    };
-    match load(alloc, &mut file, out) {
-        Ok(image) => write_image(alloc, rt, &image, name, out),
-        Err(fault) => Ended::of_fault(fault, pairs),
+    let made = load(alloc, &mut input_of(rt, pairs), out);
+    write_made(alloc, rt, made, pairs, name, out)
+}
+
+/// Merges the images of files, and makes a file of the merged one.
+fn merge_task<'a, R: Files, O: Write, A: Allocator + Copy>(
+    alloc: A,
+    rt: &R,
+    name: &'a str,
+    images: &[&'a str],
+    out: &mut O,
+) -> Result<(), Failure<'a>>
+where
+    R::File: Drop,
+{
+    let images = read_files(alloc, rt, images)?;
+    let made = merge_files(alloc, images.as_slice(), out);
+    write_made(alloc, rt, made, name, name, out)
+}
+
+/// The files of a recovery.
+#[derive(Clone, Copy)]
+struct Sources<'a, 'b> {
+    script: &'a str,
+    log: &'a str,
+    images: &'b [&'a str],
+}
+
+/// Recovers a table of files, and makes a file of its image.
+fn recover_task<'a, R: Files, O: Write, A: Allocator + Copy>(
+    alloc: A,
+    rt: &R,
+    name: &'a str,
+    sources: Sources<'a, '_>,
+    out: &mut O,
+) -> Result<(), Failure<'a>>
+where
+    R::File: Drop,
+{
+    let script = read_file(alloc, rt, sources.script)?;
+    let log = read_file(alloc, rt, sources.log)?;
+    let images = read_files(alloc, rt, sources.images)?;
+    let made = recover_files(
+        alloc,
+        script.as_slice(),
+        log.as_slice(),
+        images.as_slice(),
+        out,
+    );
+    write_made(alloc, rt, made, name, name, out)
+}
+
+/// Prints what a file has.
+fn show_task<'a, R: Files, O: Write, A: Allocator + Copy>(
+    alloc: A,
+    rt: &R,
+    name: &'a str,
+    out: &mut O,
+) -> Result<(), Failure<'a>>
+where
+    R::File: Drop,
+{
+    let bytes = read_file(alloc, rt, name)?;
+    match show(alloc, bytes.as_slice(), out) {
+        Ok(()) => Ok(()),
+        Err(fault) => Err(Failure::of_fault(fault, name)),
     }
 }
 
-/// Says on standard error what was wanting. A line that can't be written there is lost.
-fn explain<E: Write>(err: &mut E, ended: Ended<'_>) {
-    let _ = match ended {
-        Ended::CannotRead(name) => writeln!(err, "calcdb: cannot read {name}"),
-        Ended::CannotWrite(name) => writeln!(err, "calcdb: cannot write {name}"),
-        Ended::NoMemory => writeln!(err, "calcdb: no memory"),
-        Ended::Done | Ended::Refused | Ended::Usage | Ended::Shown => Ok(()),
+/// Where memory was wanting, one line on standard output says so.
+fn refused<'a, O: Write, A: Allocator + Copy>(
+    alloc: A,
+    done: Result<(), Failure<'a>>,
+    out: &mut O,
+) -> Result<(), Failure<'a>> {
+    match done {
+        Err(Failure::NoMemory) => {
+            let fault = Fault::Refused(Reason::NoMemory);
+            Err(Failure::of_fault(refuse(alloc, out, fault), ""))
+        }
+        _ => done,
+    }
+}
+
+/// Does a task.
+fn do_task<'a, R: Files, O: Write, A: Allocator + Copy>(
+    alloc: A,
+    rt: &R,
+    task: &Task<'a>,
+    out: &mut O,
+) -> Result<(), Failure<'a>>
+where
+    R::File: Drop,
+{
+    let done = match task {
+        // A run says at once that memory was wanting, on standard error.
+        Task::Run(files) => return run_task(alloc, rt, *files, out),
+        Task::Load { pairs, out: name } => load_task(alloc, rt, pairs, name, out),
+        Task::Merge { out: name, images } => merge_task(alloc, rt, name, images.as_slice(), out),
+        Task::Recover {
+            script,
+            log,
+            out: name,
+            images,
+        } => {
+            let sources = Sources {
+                script,
+                log,
+                images: images.as_slice(),
+            };
+            recover_task(alloc, rt, name, sources, out)
+        }
+        Task::Show { file } => show_task(alloc, rt, file, out),
     };
+    refused(alloc, done, out)
 }
 
 /// What the output's end makes of the work: a flush that fails is a write that failed.
-fn flushed<'a, O: Write>(out: &mut O, ended: Ended<'a>) -> Ended<'a> {
-    match out.flush() {
-        Ok(()) => ended,
-        Err(_) => Ended::CannotWrite(OUTPUT),
-    }
+fn flushed<'a, O: Write>(out: &mut O, done: Result<(), Failure<'a>>) -> Result<(), Failure<'a>> {
+    flush(out, Failure::CannotPrint)?;
+    done
 }
 
 /// Writes what clap says of the words: a text that was asked for, or on standard error a fault of theirs.
-fn answer_words<O: Write, E: Write>(out: &mut O, err: &mut E, error: &Error) -> Ended<'static> {
+fn answer_words<O: Write, E: Write>(
+    out: &mut O,
+    err: &mut E,
+    error: &Error,
+) -> Result<(), Failure<'static>> {
     match error.kind() {
-        ErrorKind::OutOfMemory => Ended::NoMemory,
+        ErrorKind::OutOfMemory => Err(Failure::NoMemory),
         _ if error.use_stderr() => {
             let _ = write!(err, "{error}");
-            Ended::Usage
+            Err(Failure::Usage)
         }
         _ => match write!(out, "{error}") {
-            Ok(()) => flushed(out, Ended::Shown),
-            Err(_) => Ended::CannotWrite(OUTPUT),
+            Ok(()) => flush(out, Failure::CannotPrint),
+            Err(_) => Err(Failure::CannotPrint),
         },
     }
 }
 
-/// Does a task, and sees that its output is out.
-fn do_task<'a, R: Files, O: Write, A: Allocator + Copy>(
-    alloc: A,
-    rt: &R,
-    task: Task<'a>,
-    out: &mut O,
-) -> Ended<'a>
-where
-    R::File: Drop,
-{
-    let ended = match task {
-        Task::Run(script) => run_file(alloc, rt, script, out),
-        Task::Load(pairs, name) => load_file(alloc, rt, pairs, name, out),
-    };
-    flushed(out, ended)
-}
-
 /// The status of the process, once standard error says what was wanting.
-fn concluded<E: Write>(err: &mut E, ended: Ended<'_>) -> u8 {
-    explain(err, ended);
-    ended.status()
+fn concluded<E: Write>(err: &mut E, done: Result<(), Failure<'_>>) -> u8 {
+    match done {
+        Ok(()) => 0,
+        Err(failure) => {
+            failure.explain(err);
+            failure.status()
+        }
+    }
 }
 
 /// Does what the words ask for, of which the first is the program's name, and answers the status of
@@ -204,10 +274,13 @@ where
     R::File: Drop,
 {
     match job(rt.alloc(), words) {
-        Ok(task) => concluded(err, do_task(alloc, rt, task, out)),
+        Ok(task) => {
+            let done = do_task(alloc, rt, &task, out);
+            concluded(err, flushed(out, done))
+        }
         Err(error) => {
-            let ended = answer_words(out, err, &error);
-            concluded(err, ended)
+            let done = answer_words(out, err, &error);
+            concluded(err, done)
         }
     }
 }
@@ -242,12 +315,11 @@ where
     match perform_buffered(rt, out, err) {
         Ok(status) => status,
         Err(error) if error.kind() == io::ErrorKind::OutOfMemory => {
-            explain(err, Ended::NoMemory);
-            Ended::NoMemory.status()
+            concluded(err, Err(Failure::NoMemory))
         }
         Err(_) => {
             let _ = writeln!(err, "calcdb: a word isn't UTF-8");
-            Ended::Usage.status()
+            Failure::Usage.status()
         }
     }
 }

@@ -13,7 +13,7 @@ use std::rt::Files;
 use std::test::Fail;
 
 /// The status of the program, on a writer that stands for standard output, and its standard error.
-fn performed<R: Files + AllocGlobal, A: Allocator + Copy>(
+pub(crate) fn performed<R: Files + AllocGlobal, A: Allocator + Copy>(
     rt: &R,
     alloc: A,
     words: &[&str],
@@ -203,7 +203,7 @@ fn loads_without_memory(rt: HostRuntime) -> Result<(), Fail> {
     Ok(())
 }
 
-/// An output that can't be written, or flushed.
+/// Where the output can't be written, or flushed, no file is made.
 #[test]
 fn loads_without_output(rt: HostRuntime) -> Result<(), Fail> {
     let alloc = rt.alloc();
@@ -216,8 +216,8 @@ fn loads_without_output(rt: HostRuntime) -> Result<(), Fail> {
         assert_eq!(rt; status, 1);
         assert_eq!(rt; err.as_slice(), "calcdb: cannot write output\n".as_bytes());
     }
+    assert!(rt; fs::read(&rt, "one_image").is_err());
     fs::remove_file(&rt, "one_pair")?;
-    fs::remove_file(&rt, "one_image")?;
     Ok(())
 }
 

@@ -10,7 +10,9 @@ ghost use Rattle.calcdb.specs.Runs.{Calls, Carried, Carries, CarriesAll, Ends, G
 
 use crate::commands::{Arguments, Command, NewCall};
 use crate::faults::Fault;
-use crate::output::{push_answer, push_image, push_key, push_numbered, push_refusal, push_text};
+use crate::output::{
+    phase_name, push_answer, push_image, push_key, push_numbered, push_refusal, push_text,
+};
 use crate::streams::{WriteError, write_out};
 use image::Image;
 use phase::Phase;
@@ -221,18 +223,6 @@ fn abandon_error_name(refused: AbandonError) -> &'static [u8]
         AbandonError::NotAbandonable => b"not abandonable",
         AbandonError::LogFull => b"log full",
         AbandonError::NoMemory => b"no memory",
-    }
-}
-
-fn phase_name(phase: Phase) -> &'static [u8]
-    ensures { result.now ≡ phase_text phase }
-{
-    match phase {
-        Phase::Rest => b"rest",
-        Phase::Prepare => b"prepare",
-        Phase::Resolve => b"resolve",
-        Phase::Capture => b"capture",
-        Phase::Complete => b"complete",
     }
 }
 

@@ -41,6 +41,15 @@ impl From<AllocError> for ScriptFault {
     }
 }
 
+/// How much of a text is read.
+#[derive(Clone, Copy, Debug, PartialEq, Eq)]
+pub(crate) enum Part {
+    /// All of it.
+    Whole,
+    /// What stands before the first line of a command.
+    Procedures,
+}
+
 /// A procedure's block that has begun.
 #[derive(Drop)]
 struct Block<A: Allocator> {
@@ -141,6 +150,15 @@ fn ends_block(line: &[u8]) -> bool
 {
     match first_word(line) {
         Some((word, rest)) => is_word(word, b"end") && first_word(rest).is_none(),
+        None => false,
+    }
+}
+
+fn begins_block(line: &[u8]) -> bool
+    ensures { result ≡ spec.begins_block (words line.now) }
+{
+    match first_word(line) {
+        Some((word, _)) => is_word(word, b"proc"),
         None => false,
     }
 }
@@ -281,6 +299,16 @@ impl<A: Allocator + Clone> Said<A> {
         self.read_words(number, line)
     }
 
+    /// Whether the part of a text that is read ends before a line.
+    fn ends_before(&self, part: Part, line: &[u8]) -> bool
+        ensures { result ≡ spec.ends_before part self.now (words line.now) }
+    {
+        match part {
+            Part::Whole => false,
+            Part::Procedures => { self.block.is_none() && !is_skipped(line) && !begins_block(line) }
+        }
+    }
+
     /// The number of the first line of the block that is open.
     fn open_line(&self) -> Option<u64>
         ensures { result ≡ spec.open_line self.now }
@@ -336,37 +364,46 @@ fn blamed(first: Option<u64>, number: u64, behind: Option<&[u8]>) -> u64
     }
 }
 
-/// Reads one line, and answers what is left behind it.
+/// Reads one line, and answers what is left to be read behind it.
 #[tactic(auto, unfolding(crate::specs::Scripts::said))]
 fn read_next<'a, A: Allocator + Clone>(
+    part: Part,
     said: &mut Said<A>,
     number: u64,
     text: &'a [u8],
 ) -> Result<Option<&'a [u8]>, ScriptFault>
-    ensures ok { IfOk result (λ behind. spec.said said.old number (lines text.now) ≡ spec.said said.new (number + 1) (left_lines (option_map (λ t. t.now) behind))) }
+    ensures ok { IfOk result (λ behind. spec.said part said.old number (lines text.now) ≡ spec.said part said.new (number + 1) (left_lines (option_map (λ t. t.now) behind))) }
     ensures shorter { IfOk result (λ behind. IfSome behind (λ t. length t.now < length text.now)) }
-    ensures err { IfErr result (λ e. (e ≡ fault.NoMemory) ⊎ (spec.said said.old number (lines text.now) ≡ Err e)) }
+    ensures err { IfErr result (λ e. (e ≡ fault.NoMemory) ⊎ (spec.said part said.old number (lines text.now) ≡ Err e)) }
 {
-    let (line, behind) = line_at(text);
+    let (found, behind) = line_at(text);
+    let line = without_return(found);
+    if said.ends_before(part, line) {
+        return Ok(None);
+    }
     let first = said.open_line();
-    match said.read_line(number, without_return(line)) {
+    match said.read_line(number, line) {
         Ok(()) => Ok(behind),
         Err(Unread::Faulty) => Err(ScriptFault::Line(blamed(first, number, behind))),
         Err(Unread::NoMemory) => Err(ScriptFault::NoMemory),
     }
 }
 
-/// Reads all lines.
-fn read_lines<A: Allocator + Clone>(alloc: A, text: &[u8]) -> Result<Said<A>, ScriptFault>
+/// Reads the lines of a part.
+fn read_lines<A: Allocator + Clone>(
+    alloc: A,
+    part: Part,
+    text: &[u8],
+) -> Result<Said<A>, ScriptFault>
     requires { length text.now ≤ SCRIPT_BYTES }
-    ensures ok { IfOk result (λ s. spec.said spec.nothing_said 1 (lines text.now) ≡ spec.whole s) }
-    ensures err { IfErr result (λ e. (e ≡ fault.NoMemory) ⊎ (spec.said spec.nothing_said 1 (lines text.now) ≡ Err e)) }
+    ensures ok { IfOk result (λ s. spec.said part spec.nothing_said 1 (lines text.now) ≡ spec.whole s) }
+    ensures err { IfErr result (λ e. (e ≡ fault.NoMemory) ⊎ (spec.said part spec.nothing_said 1 (lines text.now) ≡ Err e)) }
 {
     let mut said = Said::new(alloc)?;
     let mut number = 1;
     let mut rest = Some(text);
     while let Some(left) = rest {
-        rest = read_next(&mut said, number, left)?;
+        rest = read_next(part, &mut said, number, left)?;
         number += 1;
     }
     Ok(said)
@@ -387,18 +424,47 @@ impl<A: Allocator> Model for Script<A> {
     ghost view = { λ s. record { catalog = s.catalog; commands = s.commands } };
 }
 
+/// What a part of a text of at most 4,194,304 bytes says, or its first faulty line.
+#[tactic(auto, unfolding(crate::specs::Scripts::part_of))]
+fn read_part<A: Allocator + Clone>(
+    alloc: A,
+    part: Part,
+    text: &[u8],
+) -> Result<Script<A>, ScriptFault>
+    ensures { Tells (λ s. s) result (spec.part_of part text.now) }
+{
+    if text.len() > SCRIPT_BYTES {
+        return Err(ScriptFault::Size);
+    }
+    read_lines(alloc, part, text)?.into_script()
+}
+
 /// The script that a text of at most 4,194,304 bytes is, or its first faulty line. Lines end with a
 /// line feed, and words stand between spaces or tabs; docs/FORMATS.md has the language. It takes time
 /// and memory in proportion to the text.
-#[tactic(auto, unfolding(crate::specs::Scripts::script_of))]
 pub(crate) fn read_script<A: Allocator + Clone>(
     alloc: A,
     text: &[u8],
 ) -> Result<Script<A>, ScriptFault>
     ensures { Tells (λ s. s) result (spec.script_of text.now) }
 {
-    if text.len() > SCRIPT_BYTES {
-        return Err(ScriptFault::Size);
-    }
-    read_lines(alloc, text)?.into_script()
+    read_part(alloc, Part::Whole, text)
+}
+
+/// The procedures of a text of at most 4,194,304 bytes, or its first faulty line. Lines are looked at up
+/// to the first that is out of a block, isn't skipped and doesn't begin with `proc`; what stands from it
+/// on may be no script.
+pub(crate) fn read_catalog<A: Allocator + Clone>(
+    alloc: A,
+    text: &[u8],
+) -> Result<Catalog<A>, ScriptFault>
+    ensures value { Tells (λ c. c) result (spec.catalog_of text.now) }
+    // Of a script that can be run they are its procedures.
+    ensures script { (script : spec.Script) → spec.script_of text.now ≡ Ok script → Tells (λ c. c) result (Ok script.catalog) }
+{
+    let Script {
+        catalog,
+        commands: _,
+    } = read_part(alloc, Part::Procedures, text)?;
+    Ok(catalog)
 }

@@ -26,11 +26,11 @@ name_found : {Z : Type 0} (o : Option (Box SubCommand Z)) → option_map (λ b. 
 name_found None = refl
 name_found (Some b) = refl
 
-pub returns-in-Some-task_of : goal.returns-in-Some-task_of
-returns-in-Some-task_of g c =
+pub returns-in-Ok : goal.returns-in-Ok
+returns-in-Ok g c =
     let words : List Text = map g.S.AsStr.text c.args.words.now in
     let rows = rows_of (found_of c.in-Some.given.now) in
     let same = c.in_ok-command.ensures in
     let matched = c.in_ok-matches.ensures.ok.2 (ap is_simple same ∙ simple) in
     let found = both_found (subcommand_rows_of c.in_ok-matches.matches) c.in-Some.name.now rows (c.in-Some.ensures.name ∙ name_found (out-ArgMatches c.in_ok-matches.matches).subcommand) c.in-Some.ensures.rows in
-    ((c.in-Some.name.now, rows), ap (λ (a : App). subcommand_of a words) (sym same) ∙ sym matched.1 ∙ found, c.in-Some-task_of.ensures)
+    ((c.in-Some.name.now, rows), ap (λ (a : App). subcommand_of a words) (sym same) ∙ sym matched.1 ∙ found, c.in-Ok.ensures)

@@ -1,11 +1,16 @@
 use Rattle.std.proofs.Common.{refl, sym, ◌∙◌, subst, ap}
 use Rattle.std.proofs.lemmas.Result.{IfErr-weaker, IfOk-weaker}
-use Rattle.calcdb.specs.Pairs.{EndsAs, image_of}
+use Rattle.calcdb.specs.Pairs.{EndsAs, IsFault, IsHeader, image_of}
+use Rattle.calcdb.specs.Refusing.{no_memory}
+use Rattle.calcdb.proofs.Declined.{declined}
 use Rattle.calcdb.proofs.Loading.{same_image}
 use Rattle.calcdb.proofs.pairs.load.Goals as goal
 
 pub returns-in-Err-NoMemory-clause-fault : goal.returns-in-Err-NoMemory-clause-fault
-returns-in-Err-NoMemory-clause-fault g c = λ source known. c.refuse.ensures (image_of source) refl
+returns-in-Err-NoMemory-clause-fault g c = λ source known.
+    let says = image_of source in
+    declined (IsFault says) (IsHeader says) (g.W.Write.contents c.args.writer.now) (g.W.Write.contents c.refuse.new.writer) no_memory c.refuse.result
+    tt refl refl c.refuse.ensures
 
 pub returns-clause-image : goal.returns-clause-image
 returns-clause-image g c =

@@ -7,7 +7,7 @@ use Rattle.calcdb.proofs.scripts.read_lines.Given as goal
 -- the lines that are left, after what was said, say what the text says; each line has a byte, but the last
 abbrev pub invariant-loop-rest : goal.invariant-loop-rest
 invariant-loop-rest g l = record {
-  says : spec.said l.said l.number (left_lines (option_map (λ t. t.now) l.rest)) ≡ spec.said spec.nothing_said 1 (lines l.text);
+  says : spec.said l.part l.said l.number (left_lines (option_map (λ t. t.now) l.rest)) ≡ spec.said l.part spec.nothing_said 1 (lines l.text);
   count : l.number + size (option_map (λ t. t.now) l.rest) ≤ length l.text + 2;
 }
 

@@ -1,0 +1,159 @@
+-- Texts that are shown line by line.
+use Rattle.std.proofs.Common.{◌≡◌, ◌⊎◌, inl, inr, ◌<◌, ◌≤◌, ℕ, ◌+◌, List, [], ◌++◌, length, get_or, drop, codes, Option, Result, Ok, Err, refl, sym, ap, subst, ◌∙◌, append_assoc}
+use Rattle.std.proofs.lemmas.List.{append-nil, drop_all}
+use Rattle.std.proofs.KnownBytes.{Appends-nil}
+use Rattle.std.specs.Io.KnownBytes.{Appends}
+use Rattle.std.specs.Prelude.{IfErr, OnOk}
+use Rattle.procedure.specs.Bytes.{Bytes}
+use Rattle.commitlog.specs.LogReadings.{Damaged, IsReading, NotALog, Reading, Tells}
+use Rattle.commitlog.specs.Records.{Record}
+use Rattle.commitlog.specs.declared.decoding.LogError.{LogError}
+use Rattle.commitlog.specs.declared.decoding.LogError.TheVariants as log
+use Rattle.image.specs.Images.{Entry, Image}
+use Rattle.image.specs.Refusals.{IsAnswer, Refuses}
+use Rattle.image.specs.declared.errors.ReadError.{ReadError}
+use Rattle.image.specs.declared.errors.ReadError.TheVariants as read
+use Rattle.calcdb.specs.Outcomes.{fault_text}
+use Rattle.calcdb.specs.Output.{entries_text, entry_text, image_text, value_text}
+use Rattle.calcdb.specs.Reasons.{log_reason, read_reason}
+use Rattle.calcdb.specs.Refusing.{Declines, FailsAs, IsSaid, Suits, no_memory}
+use Rattle.calcdb.specs.Showing.{Agrees, EndsAs, IsFault, PrintsImage, PrintsLog, StopsIn, arguments_text, of_image, of_reading, record_text, records_text}
+use Rattle.calcdb.specs.Streams.{IsBegun}
+use Rattle.calcdb.specs.declared.faults.Fault.{Fault}
+use Rattle.calcdb.specs.declared.faults.Fault.TheVariants as fault
+use Rattle.calcdb.specs.declared.faults.Reason.{Reason}
+use Rattle.calcdb.specs.declared.faults.Reason.TheVariants as reason
+use Rattle.calcdb.proofs.Declined.{declined, fails_wider, suits_said}
+use Rattle.calcdb.proofs.Goings.{Gone, begun_on}
+use Rattle.calcdb.proofs.Printed.{next_is}
+
+-- ---- where a text stops
+
+pub write_stops : (text line : Bytes) (old new : Option Bytes) (f : Fault) → line ≡ text → (f ≡ fault.Write) × IsBegun old new line → StopsIn text old new f
+write_stops text line old new f same (is, begun) = inl (is, subst (IsBegun old new) same begun)
+
+pub memory_stops : (text : Bytes) (old new : Option Bytes) (f : Fault) → IsSaid no_memory old new f → StopsIn text old new f
+memory_stops text old new f said = inr (old, ([], text, refl, Appends-nil old), said)
+
+pub header_stops : (text : Bytes) (old new : Option Bytes) (f : Fault) → FailsAs (λ g. g ≡ no_memory) (λ (t : Bytes). t ≡ text) old new f → StopsIn text old new f
+header_stops text old new (fault.Line n) (is, out) = absurd (cc)
+header_stops text old new fault.Size (is, out) = absurd (cc)
+header_stops text old new fault.Read (is, out) = absurd (cc)
+header_stops text old new fault.NoMemory h = absurd h
+header_stops text old new (fault.Refused r) (is, out) = memory_stops text old new (fault.Refused r) (inl (is, subst (λ f. Appends old new (fault_text f)) is out))
+header_stops text old new fault.Write (t, inl is, begun) = inl (refl, subst (IsBegun old new) is begun)
+header_stops text old new fault.Write (t, inr (f, wants, is), begun) = memory_stops text old new fault.Write (inr (refl, subst (IsBegun old new) (is ∙ rw wants refl) begun))
+
+-- behind what went out
+pub stops_on : (old now new : Option Bytes) (text left more rest : Bytes) (f : Fault) → Gone old now text left → left ≡ more ++ rest → StopsIn more now new f → StopsIn text old new f
+stops_on old now new text left more rest f gone parts (inl (is, begun)) = inl (is, begun_on old now new text left more rest gone parts begun)
+stops_on old now new text left more rest f gone parts (inr (middle, begun, said)) = inr (middle, begun_on old now middle text left more rest gone parts begun, said)
+
+-- ---- line by line
+
+pub next_record : (rs : List Record) (i : ℕ) (r : Record) → i < length rs → r ≡ get_or rs i r → records_text i (drop i rs) ≡ record_text i r ++ records_text (i + 1) (drop (i + 1) rs)
+unfolding records_text
+next_record rs i r lt is = rw (next_is rs i r lt is) refl
+
+pub no_record : (rs : List Record) (i : ℕ) → length rs ≤ i → records_text i (drop i rs) ≡ []
+unfolding records_text
+no_record rs i le = rw (drop_all i rs le) refl
+
+pub next_entry : (es : List Entry) (i : ℕ) (e : Entry) → i < length es → e ≡ get_or es i e → entries_text (drop i es) ≡ entry_text e ++ entries_text (drop (i + 1) es)
+unfolding entries_text
+next_entry es i e lt is = rw (next_is es i e lt is) refl
+
+pub no_entry : (es : List Entry) (i : ℕ) → length es ≤ i → entries_text (drop i es) ≡ []
+unfolding entries_text
+no_entry es i le = rw (drop_all i es le) refl
+
+-- ---- texts behind one another
+
+pub three_pushed : (out x y z a b new : Bytes) → a ≡ out ++ x → b ≡ a ++ y → new ≡ b ++ z → new ≡ out ++ (x ++ (y ++ z))
+three_pushed out x y z a b new e f h = h ∙ ap (λ (l : Bytes). l ++ z) (f ∙ ap (λ (l : Bytes). l ++ y) e) ∙ simp append_assoc
+
+pub argument_kept : (out spaced printed : Bytes) (vs : List Bytes) (i : ℕ) (v : Bytes) → i < length vs → v ≡ get_or vs i v → spaced ≡ out ++ codes " " → printed ≡ spaced ++ value_text v →
+    printed ++ arguments_text (drop (i + 1) vs) ≡ out ++ arguments_text (drop i vs)
+unfolding arguments_text
+argument_kept out spaced printed vs i v lt is space text = rw (text, space, next_is vs i v lt is) (simp append_assoc)
+
+pub all_arguments : (out : Bytes) (vs : List Bytes) (i : ℕ) → length vs ≤ i → out ++ arguments_text (drop i vs) ≡ out
+unfolding arguments_text
+all_arguments out vs i le = rw (drop_all i vs le) (append-nil out)
+
+-- ---- what bytes print
+
+stops_suits : {X : Type 0} (text : Bytes) (old new : Option Bytes) (f : Fault) (says : Result X Reason) → StopsIn text old new f → Suits f says
+stops_suits text old new f says (inl (is, begun)) = rw is tt
+stops_suits text old new f says (inr (middle, begun, said)) = suits_said no_memory f middle new reason.NoMemory says refl (inl refl) said
+
+-- a text that was written, or stopped, is what is said
+pub told_agrees : (r : Result (Unit {0}) Fault) (says : Result Bytes Reason) (text : Bytes) (old new : Option Bytes) → says ≡ Ok text → OnOk r (Appends old new text) → IfErr r (λ f. StopsIn text old new f) → Agrees r says old new
+told_agrees (Ok x) says text old new is out stops = (text, is, out)
+told_agrees (Err f) says text old new is out stops = stops_suits text old new f says stops
+
+module _ (Says : Result Bytes Reason → Type 0) (old new : Option Bytes) where
+  pub shown_ends : (r : Result (Unit {0}) Fault) (text : Bytes) → Says (Ok text) → IfErr r (λ f. StopsIn text old new f) → IfErr r (λ f. EndsAs Says old new f)
+  shown_ends (Ok x) text says h = tt
+  shown_ends (Err f) text says h = inr (text, says, h)
+
+  pub shown_text : (r : Result (Unit {0}) Fault) (text : Bytes) → Says (Ok text) → OnOk r (Appends old new text) → OnOk r ((t : Bytes) × Says (Ok t) × Appends old new t)
+  shown_text (Ok x) text says h = (text, says, h)
+  shown_text (Err f) text says h = tt
+
+  pub refused_ends : (r : Reason) (f : Fault) → (r ≡ reason.NoMemory) ⊎ Says (Err r) → Declines (fault.Refused r) old new f → EndsAs Says old new f
+  refused_ends r f is h = inl (declined (IsFault Says) (λ (text : Bytes). ⊥) old new (fault.Refused r) f tt is (inl refl) h)
+
+module _ (P Q : Result Bytes Reason → Type 0) (wider : (says : Result Bytes Reason) → P says → Q says) (old new : Option Bytes) where
+  wider_fault : (f : Fault) → IsFault P f → IsFault Q f
+  wider_fault (fault.Refused r) (inl is) = inl is
+  wider_fault (fault.Refused r) (inr is) = inr (wider (Err r) is)
+  wider_fault (fault.Line n) is = absurd is
+  wider_fault fault.Size is = absurd is
+  wider_fault fault.Read is = absurd is
+  wider_fault fault.Write is = absurd is
+  wider_fault fault.NoMemory is = absurd is
+
+  ends_as : (f : Fault) → EndsAs P old new f → EndsAs Q old new f
+  ends_as f (inl h) = inl (fails_wider (IsFault P) (IsFault Q) (λ (text : Bytes). ⊥) (λ (text : Bytes). ⊥) wider_fault (λ t h. h) old new f h)
+  ends_as f (inr (text, is, stops)) = inr (text, wider (Ok text) is, stops)
+
+  pub ends_wider : (r : Result (Unit {0}) Fault) → IfErr r (λ f. EndsAs P old new f) → IfErr r (λ f. EndsAs Q old new f)
+  ends_wider (Ok x) h = tt
+  ends_wider (Err f) h = ends_as f h
+
+  pub text_wider : (r : Result (Unit {0}) Fault) → OnOk r ((text : Bytes) × P (Ok text) × Appends old new text) → OnOk r ((text : Bytes) × Q (Ok text) × Appends old new text)
+  text_wider (Ok x) (text, is, out) = (text, wider (Ok text) is, out)
+  text_wider (Err f) h = tt
+
+-- ---- refusals
+
+pub refused_log : (bytes : Bytes) (e : LogError) → (e ≡ log.NotALog → IsReading bytes NotALog) → ((i : ℕ) → e ≡ log.Damaged i → IsReading bytes (Damaged i)) → (log_reason e ≡ reason.NoMemory) ⊎ PrintsLog bytes (Err (log_reason e))
+refused_log bytes log.NotALog not damaged = inr (NotALog, not refl, refl)
+refused_log bytes (log.Damaged i) not damaged = inr (Damaged i, damaged i refl, refl)
+refused_log bytes log.NoMemory not damaged = inl refl
+
+told_log : (A : Type 0) (e : LogError) (r : Reading) → Tells {A = A} (Err e) r → (log_reason e ≡ reason.NoMemory) ⊎ (of_reading r ≡ Err (log_reason e))
+told_log A log.NotALog r is = inr (rw is refl)
+told_log A (log.Damaged i) r is = inr (rw is refl)
+told_log A log.NoMemory r is = inl refl
+
+pub only_log : (A : Type 0) (bytes : Bytes) (e : LogError) → ((r : Reading) → IsReading bytes r → Tells {A = A} (Err e) r) → (says : Result Bytes Reason) → PrintsLog bytes says →
+    (log_reason e ≡ reason.NoMemory) ⊎ (says ≡ Err (log_reason e))
+only_log A bytes e only says (r, reads, same) = rw same (told_log A e r (only r reads))
+
+pub refused_image : (bytes : Bytes) (e : ReadError) → (◌≡◌ {A = Result Image ReadError} (Err e) (Err read.NoMemory)) ⊎ Refuses e bytes → (read_reason e ≡ reason.NoMemory) ⊎ PrintsImage bytes (Err (read_reason e))
+refused_image bytes e (inl none) = (let wanting : e ≡ read.NoMemory = cc in inl (ap read_reason wanting))
+refused_image bytes e (inr is) = inr (Err e, is, refl)
+
+told_image : (e : ReadError) (i : Result Image ReadError) → (Err e ≡ i) ⊎ (◌≡◌ {A = Result Image ReadError} (Err e) (Err read.NoMemory)) → (read_reason e ≡ reason.NoMemory) ⊎ (of_image i ≡ Err (read_reason e))
+told_image e i (inl is) = inr (ap of_image (sym is))
+told_image e i (inr none) = (let wanting : e ≡ read.NoMemory = cc in inl (ap read_reason wanting))
+
+pub only_image : (bytes : Bytes) (e : ReadError) → ((i : Result Image ReadError) → IsAnswer bytes i → (Err e ≡ i) ⊎ (◌≡◌ {A = Result Image ReadError} (Err e) (Err read.NoMemory))) → (says : Result Bytes Reason) → PrintsImage bytes says →
+    (read_reason e ≡ reason.NoMemory) ⊎ (says ≡ Err (read_reason e))
+only_image bytes e only says (i, answer, same) = rw same (told_image e i (only i answer))
+
+-- an image that was read is all that the bytes print
+pub image_only : (bytes : Bytes) (i : Image) → ((j : Result Image ReadError) → IsAnswer bytes j → (Ok i ≡ j) ⊎ (Ok i ≡ Err read.NoMemory)) → (says : Result Bytes Reason) → PrintsImage bytes says → says ≡ Ok (image_text i)
+image_only bytes i only says (j, answer, same) = elim (only j answer) [ inl is ↦ same ∙ ap of_image (sym is) | inr e ↦ absurd (cc) ]

@@ -1,0 +1,23 @@
+use Rattle.std.proofs.Common.{subst}
+use Rattle.image.specs.Images.{IsLawful}
+use Rattle.image.specs.Merges.{table_of}
+use Rattle.steps.specs.Schedules.{images_in}
+use Rattle.steps.proofs.Driven.{images_taken}
+use Rattle.calcdb.proofs.CoreFiles.{taken_are_images}
+use Rattle.calcdb.proofs.laws.recovery_law.Goals as goal
+
+pub returns-clause-history : goal.returns-clause-history
+returns-clause-history g c = λ v h opens catalog named. record {
+  opens = opens;
+  lawful = subst IsLawful c.opening.ensures c.entries-entries.ensures.lawful;
+  catalog = catalog;
+  named = named;
+  legal = c.records-records.ensures.legal;
+  cyclic = c.records-records.ensures.cyclic;
+  few = c.records-records.ensures.small;
+}
+
+pub returns-clause-images : goal.returns-clause-images
+returns-clause-images g c = λ first events replies handled.
+    let core = c.args.core.now in
+    taken_are_images core.catalog (table_of core.opening) core.log (images_in replies) (images_taken events replies first core handled)

@@ -1,0 +1,8 @@
+use Rattle.std.proofs.Common.{drop}
+use Rattle.calcdb.specs.Output.{entries_text}
+use Rattle.calcdb.proofs.Goings.{Gone}
+use Rattle.calcdb.proofs.show.write_entries.Given as goal
+
+-- the lines of the entries that are left are left to go
+abbrev pub invariant-loop-entry : goal.invariant-loop-entry
+invariant-loop-entry g l = Gone (g.W.Write.contents l.fn.writer) (g.W.Write.contents l.writer) (entries_text l.entries) (entries_text (drop l.entry-index l.entries))

@@ -1,0 +1,22 @@
+//! Laws that join what a core promises with what recovering asks for, each the contract of a function
+//! that changes nothing.
+
+ghost use Rattle.std.specs.Prelude.{List};
+ghost use Rattle.steps.specs.CoreViews.{CoreView};
+ghost use Rattle.steps.specs.Schedules.{HandlesAll, images_in};
+ghost use Rattle.steps.specs.declared.schedules.Event.{Event};
+ghost use Rattle.steps.specs.declared.schedules.Reply.{Reply};
+ghost use Rattle.calcdb.specs.OwnFiles.{AreItsImages, HasHistory};
+
+use std::alloc::Allocator;
+use steps::Core;
+
+/// The log of every core, and the images that events took of it, are as a recovery of its files asks for.
+pub(crate) fn recovery_law<A: Allocator>(core: &Core<A>)
+    ensures history { HasHistory core.now }
+    ensures images { (first : CoreView) (events : List (Event A)) (replies : List (Reply A)) → HandlesAll events first core.now replies → AreItsImages core.now (images_in replies) }
+{
+    // Brings in what holds of the log of every core, and that its opening is lawful.
+    let _records = core.records();
+    let _entries = core.opening().entries();
+}

@@ -1,0 +1,163 @@
+//! Tables recovered from the bytes of a script, of a log and of images.
+
+ghost use Rattle.std.specs.Prelude.{◌≡◌, ◌≤◌, ◌⊎◌, ◌++◌, Err, IfErr, IfOk, Ok, OnOk, Result, map};
+ghost use Rattle.std.specs.FinMap as finite;
+ghost use Rattle.std.specs.Io.KnownBytes.{Appends};
+ghost use Rattle.image.specs.Images.{full_image};
+ghost use Rattle.image.specs.declared.limits.TheConstants.{ENTRIES};
+ghost use Rattle.replay.specs.Recovery.{Recovery};
+ghost use Rattle.calcdb.specs.OwnFiles.{FromImageFiles, FromOpeningFile, OfScript, OfSpelled};
+ghost use Rattle.calcdb.specs.Reasons.{Tells};
+ghost use Rattle.calcdb.specs.Recovering.{Agrees, EndsAs, IsFault, IsRecovered, OfFiles, ending_text, recovered_image, recovered_line};
+ghost use Rattle.calcdb.specs.Refusing.{FailsAs, no_memory};
+ghost use Rattle.calcdb.specs.declared.faults.Fault.{Fault as SpecFault};
+ghost use Rattle.calcdb.specs.declared.faults.Reason.{Reason as SpecReason};
+ghost use Rattle.calcdb.specs.declared.faults.Reason.TheVariants as reason;
+
+use crate::faults::{Fault, Reason};
+use crate::image_files::images_of;
+use crate::output::{push_decimal, push_text};
+use crate::refusals::{refuse, say_no_memory};
+use crate::scripts::read_catalog;
+use crate::streams::{WriteError, write_out};
+use image::{Image, OpeningError};
+use procedure::{Catalog, NoMemory, Table};
+use replay::{Recovered, recover};
+use std::alloc::Allocator;
+use std::io::Write;
+
+/// What is recovered by the procedures of a catalog.
+fn recover_with<A: Allocator + Copy>(
+    alloc: A,
+    catalog: &Catalog<A>,
+    log: &[u8],
+    files: &[Vec<u8, A>],
+) -> Result<Recovered<A>, Reason>
+    ensures ok { IfOk result (λ r. OfFiles catalog.now log.now (map (λ f. f.items) files.now) (Ok r)) }
+    ensures few { IfOk result (λ r. finite.len r.state ≤ ENTRIES) }
+    ensures err { IfErr result (λ r. (r ≡ reason.NoMemory) ⊎ OfFiles catalog.now log.now (map (λ f. f.items) files.now) (Err r)) }
+    ensures only { (says : Result Recovery SpecReason) → OfFiles catalog.now log.now (map (λ f. f.items) files.now) says → Tells (λ r. r) result says }
+    ensures spelled { OfSpelled catalog.now log.now (map (λ f. f.items) files.now) result }
+{
+    let images = images_of(alloc, files)?;
+    Ok(recover(alloc, catalog, images.as_slice(), log)?)
+}
+
+/// The one line of what was recovered, behind what is there.
+fn push_recovered<A: Allocator, B: Allocator>(
+    out: &mut Vec<u8, A>,
+    recovered: &Recovered<B>,
+) -> Result<(), NoMemory>
+    ensures { OnOk result (out.new.items ≡ out.old.items ++ recovered_line recovered.now) }
+{
+    push_text(out, b"recovered calls ")?;
+    push_decimal(out, recovered.calls as u64)?;
+    push_ending(out, recovered.torn)?;
+    push_text(out, b" count ")?;
+    push_decimal(out, recovered.state.len() as u64)?;
+    push_text(out, b"\n")
+}
+
+/// How a log ends.
+fn push_ending<A: Allocator>(out: &mut Vec<u8, A>, torn: bool) -> Result<(), NoMemory>
+    ensures { OnOk result (out.new.items ≡ out.old.items ++ ending_text torn) }
+{
+    if torn {
+        push_text(out, b" torn")
+    } else {
+        push_text(out, b" clean")
+    }
+}
+
+/// The opening image of a table that has room in one.
+fn opening_of<A: Allocator + Copy>(alloc: A, table: Table<A>) -> Result<Image<A>, NoMemory>
+    requires { finite.len table ≤ ENTRIES }
+    ensures { IfOk result (λ i. i ≡ full_image 0 0 table) }
+{
+    match Image::opening(alloc, table) {
+        Ok(image) => Ok(image),
+        Err(OpeningError::TooMany) => unreachable!(),
+        Err(OpeningError::NoMemory) => Err(NoMemory),
+    }
+}
+
+/// The image of what was recovered, and its line.
+fn answer_of<A: Allocator + Copy>(
+    alloc: A,
+    recovered: Recovered<A>,
+) -> Result<(Image<A>, Vec<u8, A>), NoMemory>
+    requires { finite.len recovered.state ≤ ENTRIES }
+    ensures image { IfOk result (λ p. p.0 ≡ recovered_image recovered) }
+    ensures line { IfOk result (λ p. p.1.items ≡ recovered_line recovered) }
+{
+    let mut line = Vec::new(alloc);
+    push_recovered(&mut line, &recovered)?;
+    let image = opening_of(alloc, recovered.state)?;
+    Ok((image, line))
+}
+
+/// What is recovered by the procedures of a script.
+fn recover_from<A: Allocator + Copy>(
+    alloc: A,
+    script: &[u8],
+    log: &[u8],
+    files: &[Vec<u8, A>],
+) -> Result<Recovered<A>, Fault>
+    ensures ok { IfOk result (λ r. IsRecovered script.now log.now (map (λ f. f.items) files.now) (Ok r)) }
+    ensures few { IfOk result (λ r. finite.len r.state ≤ ENTRIES) }
+    ensures err { IfErr result (λ f. IsFault script.now log.now (map (λ f. f.items) files.now) f) }
+    ensures only { (says : Result Recovery SpecFault) → IsRecovered script.now log.now (map (λ f. f.items) files.now) says → (result ≡ says) ⊎ (result ≡ Err no_memory) }
+    ensures spelled { OfScript script.now log.now (map (λ f. f.items) files.now) result }
+{
+    let catalog = read_catalog(alloc, script)?;
+    Ok(recover_with(alloc, &catalog, log, files)?)
+}
+
+/// Writes the line of what was recovered, and answers its image.
+fn finish<W: Write, A: Allocator + Copy>(
+    alloc: A,
+    writer: &mut W,
+    recovered: Recovered<A>,
+) -> Result<Image<A>, Fault>
+    requires { finite.len recovered.state ≤ ENTRIES }
+    ensures ok { IfOk result (λ i. (i ≡ recovered_image recovered) × Appends (W.contents writer.old) (W.contents writer.new) (recovered_line recovered)) }
+    ensures err { IfErr result (λ f. FailsAs (λ g. g ≡ no_memory) (λ text. text ≡ recovered_line recovered) (W.contents writer.old) (W.contents writer.new) f) }
+{
+    let (image, line) = match answer_of(alloc, recovered) {
+        Ok(answer) => answer,
+        Err(NoMemory) => return Err(say_no_memory(writer)),
+    };
+    match write_out(writer, line.as_slice()) {
+        Ok(()) => Ok(image),
+        Err(WriteError) => Err(Fault::Write),
+    }
+}
+
+/// Recovers a table from the bytes of images, a full one and partial ones in turn, and of a log, by the
+/// procedures of a script, of which the commands aren't looked at. The table is answered as an opening
+/// image, and one line says how many calls were run again, whether the log's end was torn, and how many
+/// keys there are. The first fault is said in one line and nothing else is written: of the script, of the
+/// first image, and then what `recover` refuses; or that memory is wanting. A write that fails, by an
+/// interruption too, and a write of no byte end it.
+pub(crate) fn recover_files<W: Write, A: Allocator + Copy>(
+    alloc: A,
+    script: &[u8],
+    log: &[u8],
+    images: &[Vec<u8, A>],
+    writer: &mut W,
+) -> Result<Image<A>, Fault>
+    // The image is that of the table, and the line says what was recovered.
+    ensures image { IfOk result (λ i. (r : Recovery) × IsRecovered script.now log.now (map (λ f. f.items) images.now) (Ok r) × (i ≡ recovered_image r) × Appends (W.contents writer.old) (W.contents writer.new) (recovered_line r)) }
+    // And else the one line of the fault, or a beginning of a line.
+    ensures fault { IfErr result (λ f. EndsAs script.now log.now (map (λ f. f.items) images.now) (W.contents writer.old) (W.contents writer.new) f) }
+    // The files say no other thing.
+    ensures only { (says : Result Recovery SpecFault) → IsRecovered script.now log.now (map (λ f. f.items) images.now) says → Agrees result says }
+    // Of the files that a history left: its table, from the opening and from images of its checkpoints.
+    ensures opening { FromOpeningFile script.now log.now (map (λ f. f.items) images.now) result }
+    ensures images { FromImageFiles script.now log.now (map (λ f. f.items) images.now) result }
+{
+    match recover_from(alloc, script, log, images) {
+        Ok(recovered) => finish(alloc, writer, recovered),
+        Err(fault) => Err(refuse(alloc, writer, fault)),
+    }
+}

@@ -1,0 +1,113 @@
+//! The folder of a run: the images and the log that are written at its end.
+
+use crate::engine::Ran;
+use crate::failures::{Failure, OutFile, RunFile};
+use crate::files::{create, flush, write_image, write_sealed};
+use commitlog::limits::RECORDS;
+use commitlog::{LogHeader, Record, WriteError, encode_to};
+use image::Image;
+use procedure::{Catalog, NoMemory, Procedure, Sequence};
+use sha2::{Digest, Sha256};
+use std::alloc::Allocator;
+use std::io::{self, BufWriter, Write};
+use std::rt::Files;
+
+/// A writer that digests what goes out, so that an image is neither sealed twice nor held in memory.
+#[derive(Drop)]
+struct Digesting<W: Drop> {
+    writer: W,
+    hasher: Sha256,
+}
+
+impl<W: Write + Drop> Write for Digesting<W> {
+    fn write(&mut self, buf: &[u8]) -> io::Result<usize> {
+        let taken = self.writer.write(buf)?;
+        self.hasher.update(&buf[..taken]);
+        Ok(taken)
+    }
+
+    fn flush(&mut self) -> io::Result<()> {
+        self.writer.flush()
+    }
+}
+
+/// Makes the file of the opening, and answers the digest of its bytes.
+fn write_opening<'a, R: Files, A: Allocator + Copy>(
+    alloc: A,
+    rt: &R,
+    folder: &'a str,
+    opening: &Image<A>,
+) -> Result<[u8; 32], Failure<'a>>
+where
+    R::File: Drop,
+{
+    let file = OutFile::InFolder(folder, RunFile::Image(0));
+    let mut writer = Digesting {
+        writer: create(alloc, rt, file)?,
+        hasher: Sha256::new(),
+    };
+    write_sealed(alloc, &mut writer, file, opening)?;
+    Ok(writer.hasher.finalize())
+}
+
+/// The digest of the catalog of these procedures.
+fn digest_of<A: Allocator + Copy>(
+    alloc: A,
+    procedures: &[Procedure<A>],
+) -> Result<[u8; 32], NoMemory> {
+    let mut copies = Vec::new(alloc);
+    for procedure in procedures {
+        copies.push(procedure.clone()?)?;
+    }
+    match Catalog::new(Sequence::new(copies)) {
+        Ok(catalog) => catalog.digest(),
+        // The procedures of a core are those of a catalog.
+        Err(_) => Err(NoMemory),
+    }
+}
+
+/// Makes the file of the log.
+fn write_log<'a, R: Files, A: Allocator + Copy>(
+    alloc: A,
+    rt: &R,
+    folder: &'a str,
+    header: &LogHeader,
+    records: &[Record<A>],
+) -> Result<(), Failure<'a>>
+where
+    R::File: Drop,
+{
+    let file = OutFile::InFolder(folder, RunFile::Log);
+    let Ok(mut writer) = BufWriter::new(alloc, create(alloc, rt, file)?) else {
+        return Err(Failure::NoMemory);
+    };
+    // A core's log has no more records than a log may have.
+    let (records, _) = records.split_at(records.len().min(RECORDS));
+    match encode_to(alloc, &mut writer, header, records) {
+        Ok(()) => flush(&mut writer, Failure::CannotWrite(file)),
+        Err(WriteError::WriteFault) => Err(Failure::CannotWrite(file)),
+        Err(WriteError::NoMemory) => Err(Failure::NoMemory),
+    }
+}
+
+/// Writes a run into a folder that is there: its opening as `0.img`, each image that it took by its
+/// number, and its log. Each file is out before the next is made, and after one that can't be written
+/// there is no other.
+pub(crate) fn write_run<'a, R: Files, A: Allocator + Copy>(
+    alloc: A,
+    rt: &R,
+    folder: &'a str,
+    ran: &Ran<A>,
+) -> Result<(), Failure<'a>>
+where
+    R::File: Drop,
+{
+    let opening = write_opening(alloc, rt, folder, ran.core.opening())?;
+    for image in ran.images.as_slice() {
+        let file = OutFile::InFolder(folder, RunFile::Image(image.number()));
+        write_image(alloc, rt, file, image)?;
+    }
+    let catalog = digest_of(alloc, ran.core.catalog())?;
+    let header = LogHeader { catalog, opening };
+    write_log(alloc, rt, folder, &header, ran.core.records())
+}
