@@ -1,6 +1,6 @@
 //! Printed values and answers.
 
-ghost use Rattle.std.specs.Prelude.{◌≡◌, ◌++◌, OnOk, codes, decimal};
+ghost use Rattle.std.specs.Prelude.{◌≡◌, ◌++◌, OnOk, decimal};
 ghost use Rattle.hex.specs.Hex.{encode_lower};
 ghost use Rattle.phase.specs.Phases.{phase_text};
 ghost use Rattle.calcdb.specs.Lines.{all_pass};
