@@ -1,5 +1,5 @@
 -- Each procedure of a catalog without a fault is lawful.
-use Rattle.std.proofs.Common.{◌≡◌, ℕ, zero, suc, List, [], ◌∷◌, Option, Some, None, refl, ap, ◌∙◌, slice_get, option_copied, IfSome, Bor, length, ◌≤◌, nat_le, arith}
+use Rattle.std.proofs.Common.{◌≡◌, ℕ, zero, suc, List, [], ◌∷◌, Option, Some, None, refl, ap, ◌∙◌, slice_get, option_copied, IfSome, Bor, length, ◌<◌, ◌≤◌, nat_le, arith}
 use Rattle.std.proofs.lemmas.Bool.{leb-false}
 use Rattle.procedure.specs.declared.limits.TheConstants.{INSTRUCTIONS, PROCEDURES}
 use Rattle.procedure.specs.declared.catalogs.CatalogError.{CatalogError}
@@ -26,6 +26,9 @@ lawful_at ps i (Some p) e at =
 -- a lawful procedure has at most 64 instructions, and a catalog at most 64 procedures
 pub at_most : (a b : ℕ) (e : CatalogError) → unless (nat_le a b) e ≡ None → a ≤ b
 at_most a b e h = grind (arith, leb-false)
+
+pub is_byte : (n : ℕ) → n ≤ 64 → n < 256
+is_byte n within = omega arith
 
 pub code_within : (p : Procedure) → procedure_fault p ≡ None → length p.code ≤ INSTRUCTIONS
 unfolding procedure_fault

@@ -139,12 +139,12 @@ either_becomes : (b : Bool) (e f : Effect) → e.becomes ≡ None → f.becomes 
 either_becomes true e f p q = p
 either_becomes false e f p q = q
 
-adding_becomes : (rs : List Cell) (r : ℕ) (x y : Option ℕ) → (adding rs r x y).becomes ≡ None
+pub adding_becomes : (rs : List Cell) (r : ℕ) (x y : Option ℕ) → (adding rs r x y).becomes ≡ None
 adding_becomes rs r None y = refl
 adding_becomes rs r (Some x) None = refl
 adding_becomes rs r (Some x) (Some y) = either_becomes _ _ _ refl refl
 
-subtracting_becomes : (rs : List Cell) (r : ℕ) (x y : Option ℕ) → (subtracting rs r x y).becomes ≡ None
+pub subtracting_becomes : (rs : List Cell) (r : ℕ) (x y : Option ℕ) → (subtracting rs r x y).becomes ≡ None
 subtracting_becomes rs r None y = refl
 subtracting_becomes rs r (Some x) None = refl
 subtracting_becomes rs r (Some x) (Some y) = either_becomes _ _ _ refl refl

@@ -7,5 +7,7 @@ pub mod Steps
 pub mod Faults
 pub mod Maps
 pub mod Results
+pub mod Slices
+pub mod Passes
 pub mod Fronts
 pub mod Bounds

@@ -1,5 +1,5 @@
 -- Facts about a result of which only the outcome is known.
-use Rattle.std.proofs.Common.{IfOk, OnErr, Ok, Err}
+use Rattle.std.proofs.Common.{IfOk, OnOk, OnErr, Ok, Err}
 use Rattle.std.specs.declared.result.Result.{Result}
 
 -- a fact that holds at either outcome
@@ -11,3 +11,7 @@ on_err (Err e) p = p
 pub if_ok : {T E : Type 0} (P Q : T → Type 0) → ((x : T) → P x → Q x) → (r : Result T E) → IfOk r P → IfOk r Q
 if_ok P Q f (Ok x) p = f x p
 if_ok P Q f (Err e) p = tt
+
+pub if_done : {T E : Type 0} {P Q : Type 0} → (P → Q) → (r : Result T E) → OnOk r P → OnOk r Q
+if_done f (Ok x) p = f p
+if_done f (Err e) p = tt

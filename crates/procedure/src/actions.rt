@@ -286,7 +286,6 @@ fn delete_action<A: Allocator>(key: Option<Key>, found: Option<&Value<A>>) -> Ac
 
 /// What an instruction does to the machine, where its key holds `found`. Only one that reads or
 /// that touches no key takes memory.
-#[tactic(auto, unfolding(crate::specs::Procedures::effect, crate::specs::Procedures::need))]
 pub(crate) fn action_of<A: Allocator + Clone>(
     alloc: &A,
     instruction: &Instr<Value<A>>,

@@ -130,7 +130,6 @@ fn check_code<A: Allocator>(arity: u8, code: &[Instr<Value<A>>]) -> Result<(), C
     Ok(())
 }
 
-#[tactic(auto, unfolding(crate::specs::Catalogs::procedure_fault))]
 fn check_procedure<A: Allocator>(procedure: &Procedure<A>) -> Result<(), CatalogError>
     ensures { result_err result ≡ procedure_fault procedure.now }
 {

@@ -5,6 +5,7 @@ ghost use Rattle.std.specs.List.{flat_map};
 ghost use Rattle.byteorder.specs.Endian.{big_bytes};
 ghost use Rattle.sha2.specs.Sha256.{sha256};
 ghost use Rattle.procedure.specs.Catalogs.{catalog_fault, first_fault, procedure_fault};
+ghost use Rattle.procedure.specs.Procedures.{Lit, AbortIf};
 ghost use Rattle.procedure.specs.CatalogBytes.{catalog_bytes, instruction_bytes, operand_bytes, procedure_bytes, test_bytes};
 
 use crate::catalogs::Catalog;
@@ -16,13 +17,28 @@ use byteorder::{BigEndian, ByteOrder};
 use sha2::{Digest, Sha256};
 use std::alloc::Allocator;
 
+fn write_bytes<A: Allocator>(out: &mut Vec<u8, A>, bytes: &[u8]) -> Result<(), NoMemory>
+    ensures { OnOk result (out.new.items ≡ out.old.items ++ bytes.now) }
+{
+    out.extend_from_slice(bytes)?;
+    Ok(())
+}
+
 fn write_u16<A: Allocator>(out: &mut Vec<u8, A>, number: u16) -> Result<(), NoMemory>
     ensures { OnOk result (out.new.items ≡ out.old.items ++ big_bytes 2 number) }
 {
     let mut bytes = [0u8; 2];
     BigEndian::write_u16(&mut bytes, number);
-    out.extend_from_slice(&bytes)?;
-    Ok(())
+    write_bytes(out, &bytes)
+}
+
+fn write_literal<A: Allocator>(out: &mut Vec<u8, A>, value: &Value<A>) -> Result<(), NoMemory>
+    ensures { OnOk result (out.new.items ≡ out.old.items ++ operand_bytes (Lit value.now)) }
+{
+    let bytes = value.as_bytes();
+    write_bytes(out, &[2])?;
+    write_u16(out, bytes.len() as u16)?;
+    write_bytes(out, bytes)
 }
 
 fn write_operand<A: Allocator>(
@@ -32,26 +48,34 @@ fn write_operand<A: Allocator>(
     ensures { OnOk result (out.new.items ≡ out.old.items ++ operand_bytes operand.now) }
 {
     match operand {
-        Operand::Arg(index) => out.extend_from_slice(&[0, *index])?,
-        Operand::Reg(register) => out.extend_from_slice(&[1, *register])?,
-        Operand::Lit(value) => {
-            let bytes = value.as_bytes();
-            out.push(2)?;
-            write_u16(out, bytes.len() as u16)?;
-            out.extend_from_slice(bytes)?;
-        }
+        Operand::Arg(index) => write_bytes(out, &[0, *index]),
+        Operand::Reg(register) => write_bytes(out, &[1, *register]),
+        Operand::Lit(value) => write_literal(out, value),
     }
-    Ok(())
 }
 
-fn write_pair<A: Allocator>(
+/// A head, and an operand after it.
+fn write_one<A: Allocator>(
     out: &mut Vec<u8, A>,
+    head: &[u8],
+    x: &Operand<Value<A>>,
+) -> Result<(), NoMemory>
+    ensures { OnOk result (out.new.items ≡ out.old.items ++ (head.now ++ operand_bytes x.now)) }
+{
+    write_bytes(out, head)?;
+    write_operand(out, x)
+}
+
+/// A head, and two operands after it.
+fn write_two<A: Allocator>(
+    out: &mut Vec<u8, A>,
+    head: &[u8],
     x: &Operand<Value<A>>,
     y: &Operand<Value<A>>,
 ) -> Result<(), NoMemory>
-    ensures { OnOk result (out.new.items ≡ out.old.items ++ (operand_bytes x.now ++ operand_bytes y.now)) }
+    ensures { OnOk result (out.new.items ≡ out.old.items ++ (head.now ++ (operand_bytes x.now ++ operand_bytes y.now))) }
 {
-    write_operand(out, x)?;
+    write_one(out, head, x)?;
     write_operand(out, y)
 }
 
@@ -59,19 +83,22 @@ fn write_test<A: Allocator>(out: &mut Vec<u8, A>, test: &Test<Value<A>>) -> Resu
     ensures { OnOk result (out.new.items ≡ out.old.items ++ test_bytes test.now) }
 {
     match test {
-        Test::Absent(x) => {
-            out.push(1)?;
-            write_operand(out, x)
-        }
-        Test::Equal(x, y) => {
-            out.push(2)?;
-            write_pair(out, x, y)
-        }
-        Test::Below(x, y) => {
-            out.push(3)?;
-            write_pair(out, x, y)
-        }
+        Test::Absent(x) => write_one(out, &[1], x),
+        Test::Equal(x, y) => write_two(out, &[2], x, y),
+        Test::Below(x, y) => write_two(out, &[3], x, y),
     }
+}
+
+fn write_abort<A: Allocator>(
+    out: &mut Vec<u8, A>,
+    test: &Test<Value<A>>,
+    code: u8,
+) -> Result<(), NoMemory>
+    ensures { OnOk result (out.new.items ≡ out.old.items ++ instruction_bytes (AbortIf test.now code)) }
+{
+    write_bytes(out, &[7])?;
+    write_test(out, test)?;
+    write_bytes(out, &[code])
 }
 
 fn write_instruction<A: Allocator>(
@@ -81,35 +108,13 @@ fn write_instruction<A: Allocator>(
     ensures { OnOk result (out.new.items ≡ out.old.items ++ instruction_bytes instruction.now) }
 {
     match instruction {
-        Instr::Read(register, key) => {
-            out.extend_from_slice(&[1, *register])?;
-            write_operand(out, key)
-        }
-        Instr::Put(key, value) => {
-            out.push(2)?;
-            write_pair(out, key, value)
-        }
-        Instr::Insert(key, value) => {
-            out.push(3)?;
-            write_pair(out, key, value)
-        }
-        Instr::Delete(key) => {
-            out.push(4)?;
-            write_operand(out, key)
-        }
-        Instr::Add(register, x, y) => {
-            out.extend_from_slice(&[5, *register])?;
-            write_pair(out, x, y)
-        }
-        Instr::Sub(register, x, y) => {
-            out.extend_from_slice(&[6, *register])?;
-            write_pair(out, x, y)
-        }
-        Instr::AbortIf(test, code) => {
-            out.push(7)?;
-            write_test(out, test)?;
-            Ok(out.push(*code)?)
-        }
+        Instr::Read(register, key) => write_one(out, &[1, *register], key),
+        Instr::Put(key, value) => write_two(out, &[2], key, value),
+        Instr::Insert(key, value) => write_two(out, &[3], key, value),
+        Instr::Delete(key) => write_one(out, &[4], key),
+        Instr::Add(register, x, y) => write_two(out, &[5, *register], x, y),
+        Instr::Sub(register, x, y) => write_two(out, &[6, *register], x, y),
+        Instr::AbortIf(test, code) => write_abort(out, test, *code),
     }
 }
 
@@ -122,7 +127,6 @@ fn write_code<A: Allocator>(out: &mut Vec<u8, A>, code: &[Instr<Value<A>>]) -> R
     Ok(())
 }
 
-#[tactic(auto, using(crate::proofs::Faults::code_within), unfolding(crate::specs::Catalogs::procedure_fault))]
 fn write_procedure<A: Allocator>(
     out: &mut Vec<u8, A>,
     procedure: &Procedure<A>,
@@ -147,7 +151,6 @@ fn write_procedures<A: Allocator>(
     Ok(())
 }
 
-#[tactic(auto, using(crate::proofs::Faults::procedures_within, crate::proofs::Faults::procedures_lawful))]
 fn write_catalog<A: Allocator>(
     out: &mut Vec<u8, A>,
     procedures: &[Procedure<A>],

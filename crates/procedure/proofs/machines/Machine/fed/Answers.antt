@@ -1,4 +1,4 @@
-use Rattle.std.proofs.Common.{◌≡◌, drop, ◌+◌, option_copied, sym, ap, subst}
+use Rattle.std.proofs.Common.{◌≡◌, ℕ, ◌+◌, ◌<◌, ◌≤◌, ◌^◌, List, [], ◌∷◌, ◌++◌, length, drop, vec_capacity, option_copied, refl, sym, ap, subst, arith, length-append}
 use Rattle.procedure.specs.Needs.{CopiesValue}
 use Rattle.procedure.specs.Runs.{Execution, Progress, advanced, next_need}
 use Rattle.procedure.proofs.Steps.{need_here, advanced_past, after_set, after_load, after_pass, after_end}
@@ -59,3 +59,80 @@ returns-in-End-clause-ok g c =
     (after_end m.args m.code m.place m.registers.items m.replies.items m.outcome (option_copied c.args.found) c.in-Some.instruction.now c.in-Some.ensures.value
     c.as_slice-args.result.now c.as_slice-args.ensures c.as_slice-registers.result.now c.as_slice-registers.ensures.value c.in_ok-register.field-0 c.in_ok-register.ensures.value
     c.in-End.code c.in-End.is c.len-end.result c.len-end.ensures))
+
+module _ (place n r cap : ℕ) (here : place < n) (room : r + n ≤ cap + place) where
+  next_within : place + 1 ≤ n
+  next_within = omega arith
+
+  next_room : r + n ≤ cap + (place + 1)
+  next_room = omega arith
+
+  room_left : (len : ℕ) → len ≡ r → len < cap
+  room_left len same = omega arith
+
+  end_room : (end : ℕ) → end ≡ n → r + n ≤ cap + end
+  end_room end same = omega arith
+
+  reply_room : {X : Type 0} (old new : List X) (x : X) (cap' : ℕ) → length old ≡ r → new ≡ old ++ x ∷ [] → cap' ≡ cap → length new + n ≤ cap' + (place + 1)
+  reply_room old new x cap' is pushed same = omega (arith, ap length pushed, length-append old (x ∷ []))
+
+next_fits : (place n end : ℕ) → place < n → end ≡ n → end < 2 ^ 64 → place + 1 < 2 ^ 64
+next_fits place n end here same fits = omega arith
+
+end_within : (end n : ℕ) → end ≡ n → end ≤ n
+end_within end n same = omega arith
+
+pub overflow_add-self : goal.overflow_add-self
+overflow_add-self g c = record { fits = next_fits c.self.inside.place (length c.self.inside.code) c.len-end.result (c.in-Some.ensures.within.0 refl) c.len-end.ensures c.len-end.type_inv }
+
+pub overflow_add-self-in-Load : goal.overflow_add-self-in-Load
+overflow_add-self-in-Load g c = record { fits = next_fits c.self.inside.place (length c.self.inside.code) c.len-end.result (c.in-Some.ensures.within.0 refl) c.len-end.ensures c.len-end.type_inv }
+
+pub overflow_add-self-in-Pass : goal.overflow_add-self-in-Pass
+overflow_add-self-in-Pass g c = record { fits = next_fits c.self.inside.place (length c.self.inside.code) c.len-end.result (c.in-Some.ensures.within.0 refl) c.len-end.ensures c.len-end.type_inv }
+
+pub push_reserved-requires : goal.push_reserved-requires
+push_reserved-requires g c =
+    let m = c.self.inside in
+    room_left m.place (length m.code) (length m.replies.items) (vec_capacity m.replies) (c.in-Some.ensures.within.0 refl) c.self.invariant.room m.replies.len m.replies.ok.0
+
+pub invariant_of-self : goal.invariant_of-self
+invariant_of-self g c =
+    let m = c.self.inside in
+    let here = c.in-Some.ensures.within.0 refl in
+    let room = c.self.invariant.room in
+    record {
+      within = next_within m.place (length m.code) (length m.replies.items) (vec_capacity m.replies) here room;
+      room = next_room m.place (length m.code) (length m.replies.items) (vec_capacity m.replies) here room;
+    }
+
+pub invariant_of-self-in-Load : goal.invariant_of-self-in-Load
+invariant_of-self-in-Load g c =
+    let m = c.self.inside in
+    let after = c.push_reserved.new.self in
+    let here = c.in-Some.ensures.within.0 refl in
+    let room = c.self.invariant.room in
+    record {
+      within = next_within m.place (length m.code) (length m.replies.items) (vec_capacity m.replies) here room;
+      room = reply_room m.place (length m.code) (length m.replies.items) (vec_capacity m.replies) here room m.replies.items after.items c.in-Load.reply (vec_capacity after) (λ i. length m.replies.items) c.push_reserved.ensures.items
+          c.push_reserved.ensures.capacity;
+    }
+
+pub invariant_of-self-in-Pass : goal.invariant_of-self-in-Pass
+invariant_of-self-in-Pass g c =
+    let m = c.self.inside in
+    let here = c.in-Some.ensures.within.0 refl in
+    let room = c.self.invariant.room in
+    record {
+      within = next_within m.place (length m.code) (length m.replies.items) (vec_capacity m.replies) here room;
+      room = next_room m.place (length m.code) (length m.replies.items) (vec_capacity m.replies) here room;
+    }
+
+pub invariant_of-self-in-End : goal.invariant_of-self-in-End
+invariant_of-self-in-End g c =
+    let m = c.self.inside in
+    let here = c.in-Some.ensures.within.0 refl in
+    record {
+      within = end_within c.len-end.result (length m.code) c.len-end.ensures;
+      room = end_room m.place (length m.code) (length m.replies.items) (vec_capacity m.replies) here c.self.invariant.room c.len-end.result c.len-end.ensures;
+    }
