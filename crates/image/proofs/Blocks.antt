@@ -1,8 +1,9 @@
 -- Entries cut into blocks.
-use Rattle.std.proofs.Common.{◌≡◌, ◌≤◌, ◌<◌, ℕ, suc, ◌-◌, List, [], ◌∷◌, ◌++◌, length, take, drop, min, sym, ap, subst, ◌∙◌, append_assoc, arith, inl, inr}
+use Rattle.std.proofs.Common.{◌≡◌, ◌≤◌, ◌<◌, ℕ, suc, ◌-◌, Bool, true, false, List, [], ◌∷◌, ◌++◌, length, take, drop, min, refl, sym, ap, subst, ◌∙◌, append_assoc, arith, inl, inr}
 use Rattle.std.specs.List.{AllByRecursion}
-use Rattle.std.proofs.lemmas.Bool.{cases_lt}
-use Rattle.std.proofs.lemmas.List.{length-drop, take_all, drop_all, take-append-drop}
+use Rattle.std.specs.Prelude.{◌==◌}
+use Rattle.std.proofs.lemmas.Bool.{cases_lt, eqb-true}
+use Rattle.std.proofs.lemmas.List.{append-nil, length-drop, take_all, drop_all, take-append-drop}
 use Rattle.procedure.specs.Bytes.{Bytes}
 use Rattle.image.specs.Images.{Entry}
 use Rattle.image.specs.ImageBytes.{block_bytes, block_count, block_digest, blocks_bytes}
@@ -56,3 +57,23 @@ all_parts P es b r k front back here there =
     both : (xs : List Entry) → AllByRecursion P xs → AllByRecursion P (xs ++ r)
     both [] h = there
     both (x ∷ xs) h = (h.0, both xs h.1)
+
+-- entries of which it was asked whether any are left
+pub some_left : {X : Type 0} (b : Bool) (es : List X) → b ≡ (length es == 0) → b ≡ false → 0 < length es
+some_left b [] is left = let both : true ≡ false = sym is ∙ left in absurd (cc)
+some_left b (e ∷ es) is left = omega arith
+
+no_more : {X : Type 0} (b : Bool) (es : List X) → b ≡ (length es == 0) → b ≡ true → es ≡ []
+no_more b [] is none = refl
+no_more b (e ∷ es) is none = absurd (omega (arith, eqb-true (length (e ∷ es)) 0 (sym is ∙ none)))
+
+-- where none are left, what is out is the whole, and all of it fits
+module _ (b : Bool) (es : List Entry) (is : b ≡ (length es == 0)) (none : b ≡ true) where
+  pub no_blocks : (before : Bytes) → blocks_bytes (block_count (length es)) before es ≡ []
+  no_blocks before = ap (λ l. blocks_bytes (block_count (length l)) before l) (no_more b es is none)
+
+  pub all_out : (before out whole : Bytes) → out ++ blocks_bytes (block_count (length es)) before es ≡ whole → out ≡ whole
+  all_out before out whole h = sym (append-nil out) ∙ ap (λ (x : Bytes). out ++ x) (sym (no_blocks before)) ∙ h
+
+  pub none_unfit : (P : Entry → Type 0) → AllByRecursion P es
+  none_unfit P = subst (AllByRecursion P) (sym (no_more b es is none)) tt

@@ -1,11 +1,13 @@
 -- What went out to a writer.
 use Rattle.std.proofs.Common.{◌≡◌, Result, Ok, Err, [], ◌++◌, Option, refl, sym, ap, ◌∙◌, append_assoc}
 use Rattle.std.proofs.lemmas.List.{append-nil}
-use Rattle.std.specs.Prelude.{OnErr}
+use Rattle.std.specs.Prelude.{IfErr, OnErr}
 use Rattle.std.specs.Io.KnownBytes.{Appends, Keeps}
 use Rattle.std.proofs.KnownBytes.{Appends-nil, Appends-trans, Appends-kept}
 use Rattle.procedure.specs.Bytes.{Bytes}
 use Rattle.image.specs.Streams.{IsBegun}
+use Rattle.image.specs.declared.streams.WriteError.{WriteError}
+use Rattle.image.specs.declared.streams.WriteError.TheVariants.{WriteFault, NoMemory}
 
 -- what went out, and what is left to go, make the text
 pub record Gone (old now : Option Bytes) (text left : Bytes) : Type 0 where
@@ -43,3 +45,8 @@ all_gone old now text g = rw (g.parts ∙ append-nil g.out) g.appended
 pub on_err : {X E P Q : Type 0} (r : Result X E) → (P → Q) → OnErr r P → OnErr r Q
 on_err (Ok x) f h = tt
 on_err (Err e) f h = f h
+
+-- a write that fails is no want of memory
+pub no_memory : {X : Type 0} (r : Result X WriteError) → IfErr r (λ e. e ≡ WriteFault) → r ≡ Err NoMemory → ⊥
+no_memory (Ok x) h m = absurd (cc)
+no_memory (Err e) h m = absurd (cc)

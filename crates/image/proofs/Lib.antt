@@ -11,6 +11,7 @@ pub mod FrontLoops
 pub mod FrontEntries
 pub mod FrontBlocks
 pub mod Readings
+pub mod Written
 pub mod Walks
 pub mod HeaderBytes
 pub mod Spellings

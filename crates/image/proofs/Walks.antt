@@ -1,6 +1,7 @@
 -- A walk over a list, of which each element is looked at.
-use Rattle.std.proofs.Common.{◌≡◌, ◌<◌, ℕ, zero, suc, ◌+◌, List, [], ◌∷◌, ◌++◌, length, get_or, drop, sym, ap, subst, ◌∙◌, append_assoc, arith}
+use Rattle.std.proofs.Common.{◌≡◌, ◌<◌, ◌≤◌, ℕ, zero, suc, ◌+◌, List, [], ◌∷◌, ◌++◌, length, get_or, drop, sym, ap, subst, ◌∙◌, append_assoc, arith}
 use Rattle.std.specs.List.{AllByRecursion}
+use Rattle.std.proofs.lemmas.List.{append-nil, drop_all}
 
 abbrev placed : {X : Type 0} → List X → ℕ → X → Type 0
 placed es i x = x ≡ get_or es i x
@@ -26,3 +27,10 @@ all_from P es i x lt is h = subst (AllByRecursion P) (next_is es i x lt is) h
 
 pub all_with : {X : Type 0} (P : X → Type 0) (es : List X) (i : ℕ) (x : X) → i < length es → x ≡ get_or es i x → P x → AllByRecursion P (drop (i + 1) es) → AllByRecursion P (drop i es)
 all_with P es i x lt is here there = subst (AllByRecursion P) (sym (next_is es i x lt is)) (here, there)
+
+-- nothing is left where the place is past the end
+pub all_made : {X : Type 0} (es made : List X) (i : ℕ) → length es ≤ i → made ++ drop i es ≡ es → made ≡ es
+all_made {X = X} es made i past whole = sym (append-nil made) ∙ ap (λ (l : List X). made ++ l) (sym (drop_all i es past)) ∙ whole
+
+pub all_past : {X : Type 0} (P : X → Type 0) (es : List X) (i : ℕ) → length es ≤ i → AllByRecursion P (drop i es)
+all_past P es i past = subst (AllByRecursion P) (sym (drop_all i es past)) tt

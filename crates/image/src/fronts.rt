@@ -73,7 +73,8 @@ fn entry_at<'a>(bytes: &'a [u8]) -> Option<(Piece<'a>, &'a [u8])>
     Some((Piece { key, cell }, rest))
 }
 
-fn digest_of(before: &[u8; 32], bytes: &[u8]) -> [u8; 32]
+/// The digest of bytes behind another digest.
+pub(crate) fn digest_of(before: &[u8; 32], bytes: &[u8]) -> [u8; 32]
     ensures { result ≡ sha256 (before.now ++ bytes.now) }
 {
     let mut hasher = Sha256::new();

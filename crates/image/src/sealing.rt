@@ -12,6 +12,7 @@ ghost use Rattle.image.specs.declared.errors.SealError.TheVariants as refused;
 
 use crate::entries::Entry;
 use crate::errors::SealError;
+use crate::fronts::digest_of;
 use crate::images::{Image, Kind};
 use crate::limits::{BLOCK, FIRST_VALUE_BYTES};
 use byteorder::{BigEndian, ByteOrder};
@@ -101,7 +102,6 @@ fn kind_byte(kind: Kind) -> u8
     }
 }
 
-#[tactic(auto, unfolding(crate::specs::ImageBytes::header_bytes))]
 fn write_header<A: Allocator, B: Allocator>(
     out: &mut Vec<u8, B>,
     magic: &[u8; 8],
@@ -150,10 +150,7 @@ pub(crate) fn write_block<A: Allocator, B: Allocator>(
 {
     let start = out.len();
     write_entries(out, entries)?;
-    let mut hasher = Sha256::new();
-    hasher.update(before.as_slice());
-    hasher.update(&out[start..]);
-    let digest = hasher.finalize();
+    let digest = digest_of(before, &out[start..]);
     out.extend_from_slice(&digest)?;
     Ok(digest)
 }
