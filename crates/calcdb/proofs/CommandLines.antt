@@ -1,17 +1,28 @@
 -- A program's commands, one by one, and what was given as an argument.
-use Rattle.std.proofs.Common.{◌≡◌, ap, ap₂, sym, false, List, map, Option, Some, None, option_map, Result, Ok, IfOk, ◌∙◌}
+use Rattle.std.proofs.Common.{◌≡◌, ap, ap₂, sym, false, ◌||◌, List, map, Option, Some, None, option_map, Result, Ok, Err, IfOk, IsOkAnd, ◌∙◌}
 use Rattle.std.specs.Borrow.{Bor}
 use Rattle.std.specs.Option.{ok_or}
-use Rattle.clap.specs.Built.{AddsSubcommand}
-use Rattle.clap.specs.Simple.{App, app_of, with_subcommand}
-use Rattle.clap.specs.Walk.{Text}
+use Rattle.clap.specs.Built.{AddsArg, AddsSubcommand}
+use Rattle.clap.specs.Simple.{App, app_of, with_rule, with_subcommand}
+use Rattle.clap.specs.Walk.{Rule, Text, rule_of}
+use Rattle.clap.specs.declared.builder.arg.Arg.{Arg}
 use Rattle.clap.specs.declared.builder.command.Command.{Command}
 use Rattle.clap.specs.declared.builder.command.Command.TheViews.{out-Command}
 
+-- the command is this one, and no argument of it is global
+abbrev pub IsApp : Command → App → Type 0
+IsApp c a = (app_of c ≡ a) × ((out-Command c).has_globals ≡ false)
+
+-- one argument more
+pub argument_added : (old : Command) (x : Arg) (new : Command) (a : App) (r : Rule) → AddsArg old x new → rule_of x ≡ r → x.global ≡ false →
+    IsApp old a → IsApp new (with_rule a r)
+argument_added old x new a r h rule_is local old_is = (h.shape local ∙ ap₂ with_rule old_is.0 rule_is, h.globals ∙ ap₂ (λ g h. g || h) old_is.1 local)
+
 -- one command more
-pub command_added : (old sub new : Command) (a s : App) → AddsSubcommand old sub new → (out-Command sub).has_globals ≡ false →
-    app_of old ≡ a → app_of sub ≡ s → app_of new ≡ with_subcommand a s.top
-command_added old sub new a s h local old_is sub_is = h.shape local ∙ ap₂ with_subcommand old_is (ap (λ (x : App). x.top) sub_is)
+pub command_added : {E : Type 0} (r : Result Command E) (old new : Command) (a s : App) → IsOkAnd r (λ sub. AddsSubcommand old sub new) →
+    IfOk r (λ sub. app_of sub ≡ s) → IfOk r (λ sub. (out-Command sub).has_globals ≡ false) → app_of old ≡ a → app_of new ≡ with_subcommand a s.top
+command_added (Ok sub) old new a s h sub_is local old_is = h.shape local ∙ ap₂ with_subcommand old_is (ap (λ (x : App). x.top) sub_is)
+command_added (Err e) old new a s h sub_is local old_is = absurd h
 
 -- the text that is there is the one that was given
 pub given_text : {E : Type 0} (o : Option (Bor Text)) (e : E) (r : Result (Bor Text) E) (given : Option Text) →

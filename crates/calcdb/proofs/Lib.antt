@@ -7,6 +7,7 @@ pub mod Declined
 pub mod Endings
 pub mod FileReadings
 pub mod Goings
+pub mod InstructionLines
 pub mod Lawful
 pub mod Loading
 pub mod Merges

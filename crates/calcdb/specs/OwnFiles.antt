@@ -1,5 +1,5 @@
 -- What is recovered of the files that a history left: a script with its procedures, its log, and images of it.
-use Rattle.std.specs.Prelude.{◌≡◌, ◌⊎◌, ◌++◌, ℕ, List, [], ◌∷◌, drop, true, Result, Ok, Err}
+use Rattle.std.specs.Prelude.{◌≡◌, ◌⊎◌, ◌++◌, ℕ, List, [], ◌∷◌, drop, Result, Ok, Err}
 use Rattle.std.specs.List.{AllByRecursion}
 use Rattle.procedure.specs.Bytes.{Bytes}
 use Rattle.procedure.specs.Procedures.{Procedure}
@@ -12,7 +12,6 @@ use Rattle.commitlog.specs.declared.formats.LogHeader.{LogHeader}
 use Rattle.commitlog.specs.declared.formats.Version.{Version}
 use Rattle.image.specs.Images.{Image}
 use Rattle.image.specs.Merges.{last_of, table_of}
-use Rattle.image.specs.Openings.{is_opening}
 use Rattle.replay.specs.Headers.{NamesCatalog, NamesOpening}
 use Rattle.replay.specs.Promises.{IsChainOf, IsFrontOf, IsHistory, IsImageOf}
 use Rattle.replay.specs.Recovery.{IsRecovery, Recovery}
@@ -52,10 +51,9 @@ FromImageFiles script text files x =
     catalog_of script ≡ Ok c → IsHistory c opening v h (m ++ left) → IsReading text (Log v h m e) → Spell (full ∷ ps) files →
     IsChainOf c (table_of opening) (m ++ left) full ps → HasCut m (last_of full ps).number → Gives (history_recovery c opening (last_of full ps).place m e) x
 
--- the log of a core that was opened from an opening is such a history, with a header that names its procedures and its opening
+-- the log of a core is such a history, with a header that names its procedures and its opening
 abbrev pub HasHistory : CoreView → Type 0
-HasHistory core =
-    (v : Version) (h : LogHeader) → is_opening core.opening ≡ true → NamesCatalog h core.catalog → NamesOpening v h core.opening → IsHistory core.catalog core.opening v h core.log
+HasHistory core = (v : Version) (h : LogHeader) → NamesCatalog h core.catalog → NamesOpening v h core.opening → IsHistory core.catalog core.opening v h core.log
 
 -- and these are images of its checkpoints
 abbrev pub AreItsImages : CoreView → List Image → Type 0

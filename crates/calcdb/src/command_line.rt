@@ -1,10 +1,13 @@
 //! The command line.
 
-ghost use Rattle.std.specs.Prelude.{◌≡◌, IfOk, Some, codes, false, map, option_map};
+ghost use Rattle.std.specs.Prelude.{◌≡◌, IfOk, IsOkAnd, List, Some, codes, false, map, option_map};
+ghost use Rattle.clap.specs.Built.{AddsSubcommand};
 ghost use Rattle.clap.specs.Matches.{found_of};
-ghost use Rattle.clap.specs.Simple.{App, app_of};
-ghost use Rattle.clap.specs.Walk.{all_of, first_of, rows_of, rule_of};
+ghost use Rattle.clap.specs.Simple.{App, app_of, subcommand_rows_of};
+ghost use Rattle.clap.specs.Values.{kind_of};
+ghost use Rattle.clap.specs.Walk.{Row, Text, all_of, first_of, rows_of, rule_of};
 ghost use Rattle.clap.specs.declared.builder.command.Command.TheViews.{out-Command};
+ghost use Rattle.clap.specs.declared.error.kind.ErrorKind.TheVariants.{MissingSubcommand};
 ghost use Rattle.calcdb.specs.CommandLines as spec;
 ghost use Rattle.calcdb.specs.CommandLines.{AsksFor, IsTask, calcdb_app, load_app, merge_app, recover_app, run_app, show_app};
 
@@ -130,23 +133,39 @@ fn described_show<'a>(alloc: Global) -> Result<Command<'a>, AllocError>
         .arg(required(alloc, "FILE", "the file with the image or the log"))
 }
 
+/// Adds a command, where memory was there to describe it.
+fn with_command<'a>(
+    program: Command<'a>,
+    command: Result<Command<'a>, AllocError>,
+) -> Result<Command<'a>, AllocError>
+    ensures { IfOk result (λ c. IsOkAnd command.entry (λ s. AddsSubcommand program.entry s c)) }
+{
+    match command {
+        Ok(command) => program.subcommand(command),
+        Err(refused) => {
+            drop(program);
+            Err(refused)
+        }
+    }
+}
+
 /// The program's commands.
 fn described<'a>(alloc: Global) -> Result<Command<'a>, AllocError>
     ensures { IfOk result (λ c. app_of c ≡ calcdb_app) }
 {
-    Command::new(alloc, "calcdb")
+    let program = Command::new(alloc, "calcdb")
         .about("An in-memory key-value engine with stored procedures")
         .version("0.1.0")
-        .subcommand_required(true)
-        .subcommand(described_run(alloc)?)?
-        .subcommand(described_load(alloc)?)?
-        .subcommand(described_merge(alloc)?)?
-        .subcommand(described_recover(alloc)?)?
-        .subcommand(described_show(alloc)?)
+        .subcommand_required(true);
+    let program = with_command(program, described_run(alloc))?;
+    let program = with_command(program, described_load(alloc))?;
+    let program = with_command(program, described_merge(alloc))?;
+    let program = with_command(program, described_recover(alloc))?;
+    with_command(program, described_show(alloc))
 }
 
 /// Why a command's matches ask for nothing.
-#[derive(Clone, Copy, Debug)]
+#[derive(Clone, Copy)]
 enum Unasked {
     /// No such command, or an argument isn't there.
     Missing,
@@ -185,34 +204,106 @@ fn given_perhaps<'a>(given: &ArgMatches<'a>, name: &str) -> Option<&'a str>
     given.get_str(name)
 }
 
+/// What `run` asks for with these arguments.
+fn asked_run<'a>(given: &ArgMatches<'a>) -> Result<Task<'a>, Unasked>
+    ensures { IfOk result (λ t. AsksFor (codes "run", rows_of (found_of given.now)) t) }
+{
+    Ok(Task::Run(RunFiles {
+        script: given_once(given, "SCRIPT")?,
+        opening: given_perhaps(given, "IMAGE"),
+        folder: given_perhaps(given, "DIR"),
+    }))
+}
+
+/// What `load` asks for with these arguments.
+fn asked_load<'a>(given: &ArgMatches<'a>) -> Result<Task<'a>, Unasked>
+    ensures { IfOk result (λ t. AsksFor (codes "load", rows_of (found_of given.now)) t) }
+{
+    Ok(Task::Load {
+        pairs: given_once(given, "PAIRS")?,
+        out: given_once(given, "OUT")?,
+    })
+}
+
+/// What `merge` asks for with these arguments.
+fn asked_merge<'a>(alloc: Global, given: &ArgMatches<'a>) -> Result<Task<'a>, Unasked>
+    ensures { IfOk result (λ t. AsksFor (codes "merge", rows_of (found_of given.now)) t) }
+{
+    Ok(Task::Merge {
+        out: given_once(given, "OUT")?,
+        images: given_all(alloc, given, "IMAGE")?,
+    })
+}
+
+/// What `recover` asks for with these arguments.
+fn asked_recover<'a>(alloc: Global, given: &ArgMatches<'a>) -> Result<Task<'a>, Unasked>
+    ensures { IfOk result (λ t. AsksFor (codes "recover", rows_of (found_of given.now)) t) }
+{
+    Ok(Task::Recover {
+        script: given_once(given, "SCRIPT")?,
+        log: given_once(given, "LOG")?,
+        out: given_once(given, "OUT")?,
+        images: given_all(alloc, given, "IMAGE")?,
+    })
+}
+
+/// What `show` asks for with these arguments.
+fn asked_show<'a>(given: &ArgMatches<'a>) -> Result<Task<'a>, Unasked>
+    ensures { IfOk result (λ t. AsksFor (codes "show", rows_of (found_of given.now)) t) }
+{
+    Ok(Task::Show {
+        file: given_once(given, "FILE")?,
+    })
+}
+
 /// What a command of this name asks for with these arguments.
 fn task_of<'a>(alloc: Global, name: &str, given: &ArgMatches<'a>) -> Result<Task<'a>, Unasked>
     ensures { IfOk result (λ t. AsksFor (name.now, rows_of (found_of given.now)) t) }
 {
     match name {
-        "run" => Ok(Task::Run(RunFiles {
-            script: given_once(given, "SCRIPT")?,
-            opening: given_perhaps(given, "IMAGE"),
-            folder: given_perhaps(given, "DIR"),
-        })),
-        "load" => Ok(Task::Load {
-            pairs: given_once(given, "PAIRS")?,
-            out: given_once(given, "OUT")?,
-        }),
-        "merge" => Ok(Task::Merge {
-            out: given_once(given, "OUT")?,
-            images: given_all(alloc, given, "IMAGE")?,
-        }),
-        "recover" => Ok(Task::Recover {
-            script: given_once(given, "SCRIPT")?,
-            log: given_once(given, "LOG")?,
-            out: given_once(given, "OUT")?,
-            images: given_all(alloc, given, "IMAGE")?,
-        }),
-        "show" => Ok(Task::Show {
-            file: given_once(given, "FILE")?,
-        }),
+        "run" => asked_run(given),
+        "load" => asked_load(given),
+        "merge" => asked_merge(alloc, given),
+        "recover" => asked_recover(alloc, given),
+        "show" => asked_show(given),
         _ => Err(Unasked::Missing),
+    }
+}
+
+/// What the command that was entered asks for.
+fn asked<'a>(alloc: Global, matches: &ArgMatches<'a>) -> Result<Task<'a>, Unasked>
+    ensures { IfOk result (λ t. (given : Text × List Row)
+        × (subcommand_rows_of matches.now ≡ Some given) × AsksFor given t) }
+{
+    match matches.subcommand() {
+        Some((name, given)) => task_of(alloc, name, given),
+        None => Err(Unasked::Missing),
+    }
+}
+
+/// Clap's error where the matches ask for nothing.
+fn refused<'a>(program: &mut Command<'a>, why: Unasked) -> Result<Error, AllocError>
+    ensures { IfOk result (λ e. kind_of e ≡ MissingSubcommand) }
+{
+    match why {
+        Unasked::NoMemory => Err(AllocError),
+        Unasked::Missing => program.error(ErrorKind::MissingSubcommand, "no such command"),
+    }
+}
+
+/// What the words ask the program's command for.
+fn job_of<'a, S: AsStr>(
+    alloc: Global,
+    program: &mut Command<'a>,
+    words: &'a [S],
+) -> Result<Task<'a>, Error>
+    requires { app_of program.old ≡ calcdb_app }
+    ensures { IfOk result (λ t. IsTask (map S.text words.entry.now) t) }
+{
+    let asked = asked(alloc, &program.try_get_matches_from_mut(words)?);
+    match asked {
+        Ok(task) => Ok(task),
+        Err(why) => Err(refused(program, why)?),
     }
 }
 
@@ -221,14 +312,8 @@ fn task_of<'a>(alloc: Global, name: &str, given: &ArgMatches<'a>) -> Result<Task
 pub(crate) fn job<'a, S: AsStr>(alloc: Global, words: &'a [S]) -> Result<Task<'a>, Error>
     ensures { IfOk result (λ t. IsTask (map S.text words.entry.now) t) }
 {
-    let mut command = described(alloc)?;
-    let matches = command.try_get_matches_from_mut(words)?;
-    if let Some((name, given)) = matches.subcommand() {
-        match task_of(alloc, name, given) {
-            Ok(task) => return Ok(task),
-            Err(Unasked::NoMemory) => return Err(AllocError)?,
-            Err(Unasked::Missing) => {}
-        }
-    }
-    Err(command.error(ErrorKind::MissingSubcommand, "no such command")?)
+    let mut program = described(alloc)?;
+    let job = job_of(alloc, &mut program, words);
+    drop(program);
+    job
 }

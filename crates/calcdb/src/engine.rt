@@ -1,6 +1,6 @@
 //! A run of a script, from its reader to its writer.
 
-ghost use Rattle.std.specs.Prelude.{◌≡◌, IfErr, IfOk, Some, true, Ok};
+ghost use Rattle.std.specs.Prelude.{◌≡◌, Err, IfErr, IfOk, Ok, Some, true};
 ghost use Rattle.std.specs.Io.KnownBytes.{Appends};
 ghost use Rattle.procedure.specs.Bytes.{Bytes};
 ghost use Rattle.image.specs.Openings.{is_opening};
@@ -8,9 +8,10 @@ ghost use Rattle.steps.specs.Openings.{IsOpened};
 ghost use Rattle.steps.specs.CoreViews.{CoreView};
 ghost use Rattle.calcdb.specs.Outcomes.{EndsAs, HasLine, Refuses, RefusesScript, RunsTo, StopsAs};
 ghost use Rattle.calcdb.specs.Scripts.{script_of};
-ghost use Rattle.calcdb.specs.Runs.{Carried, CarriesAll};
+ghost use Rattle.calcdb.specs.Runs.{Carried, CarriesAll, HasRun, Sent};
 ghost use Rattle.calcdb.specs.declared.faults.Fault.TheVariants as fault;
 
+use crate::commands::{Arguments, Command};
 use crate::faults::{Fault, Reason};
 use crate::refusals::{push_fault, say};
 use crate::run::run_commands;
@@ -60,6 +61,25 @@ fn refuse_script<W: Write, A: Allocator + Clone>(
     }
 }
 
+/// Carries out commands on a core, which is left with the images that they took.
+fn run_on<W: Write, A: Allocator + Copy>(
+    alloc: A,
+    writer: &mut W,
+    mut core: Core<A>,
+    commands: Vec<Command<Arguments<A>>, A>,
+) -> Result<Ran<A>, Fault>
+    ensures ok { IfOk result (λ r. (text : Bytes) × Carried {A = A} (CarriesAll core.catalog commands.items) core r.core text r.images.items × Appends (W.contents writer.old) (W.contents writer.new) text) }
+    ensures err { IfErr result (λ f. (new : CoreView) × (text : Bytes) × HasRun A core.catalog commands.items core new text × Sent (Err f) (W.contents writer.old) (W.contents writer.new) text) }
+{
+    match run_commands(alloc, &mut core, writer, commands) {
+        Ok(images) => Ok(Ran { core, images }),
+        Err(fault) => {
+            drop(core);
+            Err(fault)
+        }
+    }
+}
+
 /// Carries out a script on a core that is opened for it.
 fn run_opened<W: Write, A: Allocator + Copy>(
     alloc: A,
@@ -72,14 +92,10 @@ fn run_opened<W: Write, A: Allocator + Copy>(
     ensures err { IfErr result (λ f. StopsAs A script opening (W.contents writer.old) (W.contents writer.new) f) }
 {
     let Script { catalog, commands } = script;
-    let mut core = match Core::open(alloc, catalog, opening) {
-        Ok(core) => core,
+    match Core::open(alloc, catalog, opening) {
+        Ok(core) => run_on(alloc, writer, core, commands.into_vec()),
         // The opening is one, so memory was wanting.
-        Err(_) => return Err(Fault::NoMemory),
-    };
-    match run_commands(alloc, &mut core, writer, commands.into_vec()) {
-        Ok(images) => Ok(Ran { core, images }),
-        Err(fault) => Err(fault),
+        Err(_) => Err(Fault::NoMemory),
     }
 }
 

@@ -1,7 +1,10 @@
-//! An allocator for tests: it counts the growths that are asked of it, and refuses one of them.
+//! An allocator for tests: it counts the growths that are asked of it, and refuses one of them or all.
 
 use std::alloc::{AllocError, Allocator};
 use std::sync::atomic::{AtomicU64, Ordering};
+
+/// In place of the number of a growth: each one is refused.
+pub(crate) const EVERY: u64 = u64::MAX;
 
 /// How many growths were asked for since the last `arm`, and which one is refused (0: none).
 #[derive(Debug)]
@@ -10,7 +13,7 @@ struct Tally {
     refused: AtomicU64,
 }
 
-/// Passes each call on to `inner`, but for the one growth that it is armed to refuse.
+/// Passes each call on to `inner`, but for the growths that it is armed to refuse.
 /// Hand collections a `&` to it: that is an allocator too, and is `Copy`.
 #[derive(Debug)]
 pub(crate) struct Fallible<B: Allocator> {
@@ -29,7 +32,7 @@ impl<B: Allocator> Fallible<B> {
         }
     }
 
-    /// Counts from 0 again, and refuses the growth number `refused` from here on (0: none).
+    /// Counts from 0 again, and refuses the growth number `refused` from here on (0: none; or `EVERY`).
     pub(crate) fn arm(&self, refused: u64) {
         self.tally.asked.store(0, Ordering::SeqCst);
         self.tally.refused.store(refused, Ordering::SeqCst);
@@ -55,7 +58,8 @@ impl<B: Allocator> Drop for Fallible<B> {
 
 fn refuses(tally: &Tally) -> bool {
     let before = tally.asked.fetch_add(1, Ordering::SeqCst);
-    before.wrapping_add(1) == tally.refused.load(Ordering::SeqCst)
+    let refused = tally.refused.load(Ordering::SeqCst);
+    refused == EVERY || before.wrapping_add(1) == refused
 }
 
 unsafe impl<B: Allocator> Allocator for Fallible<B> {

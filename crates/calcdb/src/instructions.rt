@@ -15,7 +15,7 @@ use procedure::{Instr, Operand, Test, Value};
 use std::alloc::Allocator;
 
 /// The first word of an instruction.
-#[derive(Clone, Copy, Debug, PartialEq, Eq)]
+#[derive(Clone, Copy, PartialEq, Eq)]
 pub(crate) enum Verb {
     Read,
     Put,
@@ -27,7 +27,7 @@ pub(crate) enum Verb {
 }
 
 /// The word of a test.
-#[derive(Clone, Copy, Debug, PartialEq, Eq)]
+#[derive(Clone, Copy, PartialEq, Eq)]
 pub(crate) enum TestName {
     Absent,
     Equal,
@@ -278,7 +278,6 @@ fn abort_line<A: Allocator + Clone>(
 }
 
 /// The instruction that a line is, in a procedure of so many arguments.
-#[tactic(auto, unfolding(crate::specs::Instructions::instruction_of))]
 pub(crate) fn instruction_of<A: Allocator + Clone>(
     alloc: A,
     arity: u8,

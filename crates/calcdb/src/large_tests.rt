@@ -1,9 +1,14 @@
-//! A script of 100,000 calls and more, whose table is full.
+//! Tables of 100,000 keys, the largest call, and many calls.
 
+use crate::core_tests::key_and_value;
+use crate::logs::log_of_core;
+use crate::rows::{Row, check_alone, check_driven, check_over, driven, opened, rows_of};
 use crate::tests::{PROCEDURES, check_script};
 use std::alloc::Global;
 use std::fmt::Write;
+use std::process::Abort;
 use std::test::Fail;
+use steps::Core;
 
 /// A table of 100,000 keys takes no other, and the calls that need none go on.
 const AT_THE_END: (&str, &str) = (
@@ -23,11 +28,185 @@ fn fill(script: &mut String<Global>, answers: &mut String<Global>) -> Result<(),
 }
 
 #[test]
-fn full_table(rt: HostRuntime) -> Result<(), Fail> {
+fn filled_table(rt: HostRuntime) -> Result<(), Fail> {
     let mut script = String::from_str(rt.alloc(), PROCEDURES)?;
     let mut answers = String::new(rt.alloc());
     fill(&mut script, &mut answers)?;
     script.push_str(AT_THE_END.0)?;
     answers.push_str(AT_THE_END.1)?;
     check_script(&rt, rt.alloc(), script.as_str(), answers.as_str())
+}
+
+/// Over a table of 100,000 keys, one of them `k`.
+const FULL_TABLE: &str = "\
+# full_table
+call 0 1 new 'zz #1 = refused table full
+call 0 1 set 'k #1 = place 0 committed
+call 0 2 del 'k = place 1 committed
+call 0 3 new 'zz #1 = refused table full
+";
+
+/// A refused step takes its lock back. A record without a live version has its place.
+const FULL_TABLE_IN_STEPS: &str = "\
+# full_table, in steps
+begin 0 1 new 'zz #1 = ok / step 0 = refused table full
+begin 1 1 get 'zz = ok / step 1 = ready / step 0 = refused conflict / giveup 1 = ok
+step 0 = refused table full / giveup 0 = ok
+begin 0 1 set 'k #1 = ok / step 0 = ready / finish 0 = place 0 committed
+begin 0 2 del 'k = ok / step 0 = ready / finish 0 = place 1 committed
+begin 0 3 swap 'zz #1 = ok / step 0 = ran / step 0 = refused table full
+begin 1 1 get 'zz = ok / step 1 = ready / finish 1 = place 2 committed -
+begin 1 2 del 'zz = ok / step 1 = refused conflict / giveup 0 = ok / step 1 = ready
+finish 1 = place 3 aborted 2
+";
+
+/// Pairs of so many keys of 4 bytes, which are numbers from 0 on.
+fn numbers(alloc: Global, count: u32) -> Result<String<Global>, Fail> {
+    let mut pairs = String::new(alloc);
+    for key in 0..count {
+        writeln!(pairs, "x{key:08x} #0")?;
+    }
+    Ok(pairs)
+}
+
+/// The pairs of a table of 100,000 keys, one of them `k`.
+fn full_pairs(alloc: Global) -> Result<String<Global>, Fail> {
+    let mut pairs = numbers(alloc, 99_999)?;
+    pairs.push_str("'k #7")?;
+    Ok(pairs)
+}
+
+/// The rows of a text over that table.
+fn full_rows(alloc: Global, text: &str) -> Result<Vec<Row<'_>, Global>, Fail> {
+    let mut rows = rows_of(alloc, text)?;
+    for row in rows.iter_mut() {
+        row.opening = full_pairs(alloc)?;
+    }
+    Ok(rows)
+}
+
+#[test]
+fn full_table(rt: HostRuntime) -> Result<(), Fail> {
+    for row in &full_rows(rt.alloc(), FULL_TABLE)? {
+        check_alone(&rt, row)?;
+    }
+    for row in &full_rows(rt.alloc(), FULL_TABLE_IN_STEPS)? {
+        check_driven(&rt, row)?;
+    }
+    Ok(())
+}
+
+/// A procedure of 64 reads behind the worked ones, and these commands.
+fn script_of_reads(alloc: Global, commands: &str) -> Result<String<Global>, Fail> {
+    let reads = "read r0 $0\n".repeat(alloc, 64)?;
+    Ok(format!(in alloc; "{PROCEDURES}proc many 1\n{reads}end\n{commands}")?)
+}
+
+/// A key of 32 bytes that holds 256 bytes.
+fn long_pair(alloc: Global) -> Result<String<Global>, Fail> {
+    let value = "a".repeat(alloc, 256)?;
+    Ok(format!(in alloc; "'aaaaaaaaaaaaaaaaaaaaaaaaaaaaaaaa '{value}")?)
+}
+
+/// The answer of a call that was replied 256 bytes 64 times.
+fn long_answer(alloc: Global) -> Result<String<Global>, Fail> {
+    let value = "a".repeat(alloc, 256)?;
+    let replies = format!(in alloc; " '{value}")?.repeat(alloc, 64)?;
+    Ok(format!(in alloc; "place 0 committed{replies}\n")?)
+}
+
+/// A call of 64 reads, and one of a key of 33 bytes, which is none.
+const LARGEST: &str =
+    "call 0 1 many 'aaaaaaaaaaaaaaaaaaaaaaaaaaaaaaaa\ncall 0 2 get 'aaaaaaaaaaaaaaaaaaaaaaaaaaaaaaaaa";
+
+/// How many bytes the log of a script's run has.
+fn log_size<R: Abort + AllocGlobal>(
+    rt: &R,
+    script: &str,
+    pairs: &str,
+    answers: &str,
+) -> Result<usize, Fail> {
+    let ran = check_over(rt, "largest", script, pairs, answers)?;
+    let log = log_of_core(rt.alloc(), &ran.core)?;
+    Ok(log.len())
+}
+
+/// Their records have 16,662 bytes and 87.
+#[test]
+fn largest_call(rt: HostRuntime) -> Result<(), Fail> {
+    let script = script_of_reads(rt.alloc(), LARGEST)?;
+    let answer = long_answer(rt.alloc())?;
+    let answers = format!(in rt.alloc(); "{answer}place 1 aborted 5\n")?;
+    let pair = long_pair(rt.alloc())?;
+    let size = log_size(&rt, script.as_str(), pair.as_str(), answers.as_str())?;
+    assert_eq!(rt; size, 72 + 16_662 + 87);
+    Ok(())
+}
+
+/// The call of 64 reads in steps.
+fn largest_steps(alloc: Global) -> Result<String<Global>, Fail> {
+    let steps = "step 5\n".repeat(alloc, 64)?;
+    let begin = "begin 5 1 many 'aaaaaaaaaaaaaaaaaaaaaaaaaaaaaaaa";
+    let commands = format!(in alloc; "{begin}\n{steps}finish 5")?;
+    script_of_reads(alloc, commands.as_str())
+}
+
+fn largest_steps_answers(alloc: Global) -> Result<String<Global>, Fail> {
+    let ran = "ran\n".repeat(alloc, 63)?;
+    let answer = long_answer(alloc)?;
+    Ok(format!(in alloc; "ok\n{ran}ready\n{answer}")?)
+}
+
+#[test]
+fn largest_call_in_steps(rt: HostRuntime) -> Result<(), Fail> {
+    let script = largest_steps(rt.alloc())?;
+    let pair = long_pair(rt.alloc())?;
+    let written = driven(rt.alloc(), script.as_str(), pair.as_str())?;
+    let answers = largest_steps_answers(rt.alloc())?;
+    assert_eq!(rt; written.as_slice(), answers.as_bytes());
+    Ok(())
+}
+
+/// The number of the procedure `swap`.
+const SWAP: u16 = 6;
+
+/// The place of a call in which a session swaps what a key holds.
+fn swapped(
+    core: &mut Core<Global>,
+    alloc: Global,
+    session: u16,
+    number: u64,
+    key: u32,
+) -> Option<usize> {
+    let args = key_and_value(alloc, key, &number.to_be_bytes()).ok()?;
+    core.begin(session, number, SWAP, args).ok()?;
+    core.step(session).ok()?;
+    core.step(session).ok()?;
+    Some(core.finish(session).ok()?.place)
+}
+
+/// How many of so many calls are answered at the places from 0 on, of all sessions in turn and over
+/// 100,000 keys.
+fn count_answered(core: &mut Core<Global>, alloc: Global, calls: u32) -> u32 {
+    let mut count = 0u32;
+    for n in 0..calls {
+        let key = n.wrapping_mul(7_919) % 100_000;
+        if swapped(core, alloc, (n % 64) as u16, u64::from(n), key) == Some(n as usize) {
+            count = count.saturating_add(1);
+        }
+    }
+    count
+}
+
+/// How many of the calls are answered so, and how many slots the table has then.
+fn answered(alloc: Global, core: &mut Core<Global>) -> (u32, usize) {
+    (count_answered(core, alloc, 500_000), core.slots())
+}
+
+#[test]
+fn many_calls(rt: HostRuntime) -> Result<(), Fail> {
+    let pairs = numbers(rt.alloc(), 100_000)?;
+    let mut core = opened(rt.alloc(), rt.alloc(), pairs.as_str())?;
+    assert_eq!(rt; answered(rt.alloc(), &mut core), (500_000, 100_000));
+    Ok(())
 }

@@ -16,7 +16,7 @@ pub(crate) fn recovery_law<A: Allocator>(core: &Core<A>)
     ensures history { HasHistory core.now }
     ensures images { (first : CoreView) (events : List (Event A)) (replies : List (Reply A)) → HandlesAll events first core.now replies → AreItsImages core.now (images_in replies) }
 {
-    // Brings in what holds of the log of every core, and that its opening is lawful.
+    // Brings in what holds of the log and of the opening of every core.
     let _records = core.records();
     let _entries = core.opening().entries();
 }

@@ -13,11 +13,13 @@ mod call_growth_tests;
 #[cfg(test)]
 mod catalog_tests;
 #[cfg(test)]
-mod checkpoint_tests;
+mod checkpoint_rows;
 mod command_line;
 #[cfg(test)]
 mod command_line_tests;
 mod commands;
+#[cfg(test)]
+mod core_tests;
 #[cfg(test)]
 mod device_tests;
 #[cfg(test)]
@@ -27,8 +29,6 @@ mod engine;
 mod example_tests;
 mod failures;
 mod faults;
-#[cfg(test)]
-mod file_tests;
 mod files;
 #[cfg(test)]
 mod growth_tests;
@@ -42,37 +42,49 @@ mod instructions;
 mod large_tests;
 mod laws;
 mod lines;
+#[cfg(test)]
+mod logs;
+#[cfg(test)]
+mod made_files;
 mod merge_files;
 #[cfg(test)]
-mod merge_tests;
-#[cfg(test)]
-mod opening_tests;
+mod merge_rows;
 mod output;
 mod pairs;
 #[cfg(test)]
 mod pairs_tests;
 mod program;
 #[cfg(test)]
-mod program_tests;
+mod program_rows;
+#[cfg(test)]
+mod reclaim_rows;
 mod recover_files;
 #[cfg(test)]
-mod recover_refusal_tests;
-#[cfg(test)]
-mod recover_tests;
+mod recover_rows;
 mod refusals;
+#[cfg(test)]
+mod row_tests;
+#[cfg(test)]
+mod rows;
 mod run;
 mod run_folder;
 #[cfg(test)]
-mod run_folder_tests;
+mod run_rows;
+#[cfg(test)]
+mod schedule_rows;
 mod scripts;
 mod show;
-#[cfg(test)]
-mod show_tests;
 mod streams;
 #[cfg(test)]
 mod tests;
 mod unread;
 mod values;
+#[cfg(test)]
+mod without_memory_tests;
+#[cfg(test)]
+mod work_growth_tests;
+#[cfg(test)]
+mod worked_rows;
 
 use std::process::ExitCode;
 

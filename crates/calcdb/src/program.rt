@@ -2,7 +2,7 @@
 
 use crate::command_line::{RunFiles, Task, job};
 use crate::engine;
-use crate::engine::run_script;
+use crate::engine::{Ran, run_script};
 use crate::failures::{Failure, OutFile};
 use crate::faults::{Fault, Reason};
 use crate::files::{flush, input_of, read_file, read_files, write_image};
@@ -47,6 +47,61 @@ fn empty_opening<'a, A: Allocator>(alloc: A) -> Result<Image<A>, Failure<'a>> {
     Image::new(Kind::Full, 0, 0, 0, Vec::new(alloc)).ok_or(Failure::NoMemory)
 }
 
+/// The image to open from: that of a file, or of the empty table.
+fn opening_of<'a, R: Files, O: Write, A: Allocator + Copy>(
+    alloc: A,
+    rt: &R,
+    name: Option<&'a str>,
+    out: &mut O,
+) -> Result<Image<A>, Failure<'a>>
+where
+    R::File: Drop,
+{
+    match name {
+        Some(name) => read_opening(alloc, rt, name, out),
+        None => empty_opening(alloc),
+    }
+}
+
+/// Once the answers are out, writes what a run leaves where that is asked for.
+fn leave_run<'a, R: Files, O: Write, A: Allocator + Copy>(
+    alloc: A,
+    rt: &R,
+    folder: Option<&'a str>,
+    ran: &Ran<A>,
+    out: &mut O,
+) -> Result<(), Failure<'a>>
+where
+    R::File: Drop,
+{
+    flush(out, Failure::CannotPrint)?;
+    match folder {
+        Some(folder) => write_run(alloc, rt, folder, ran),
+        None => Ok(()),
+    }
+}
+
+/// Runs a script over an opening.
+fn run_over<'a, R: Files, O: Write, A: Allocator + Copy>(
+    alloc: A,
+    rt: &R,
+    files: RunFiles<'a>,
+    opening: Image<A>,
+    out: &mut O,
+) -> Result<(), Failure<'a>>
+where
+    R::File: Drop,
+{
+    match run_script(alloc, &mut input_of(rt, files.script), out, opening) {
+        Ok(ran) => {
+            let left = leave_run(alloc, rt, files.folder, &ran, out);
+            drop(ran);
+            left
+        }
+        Err(fault) => Err(Failure::of_fault(fault, files.script)),
+    }
+}
+
 /// Runs a script, and at its end writes its images and its log where that is asked for. The image to
 /// open from is read and checked before the script is looked for.
 fn run_task<'a, R: Files, O: Write, A: Allocator + Copy>(
@@ -58,20 +113,8 @@ fn run_task<'a, R: Files, O: Write, A: Allocator + Copy>(
 where
     R::File: Drop,
 {
-    let opening = match files.opening {
-        Some(name) => read_opening(alloc, rt, name, out)?,
-        None => empty_opening(alloc)?,
-    };
-    let mut script = input_of(rt, files.script);
-    let ran = match run_script(alloc, &mut script, out, opening) {
-        Ok(ran) => ran,
-        Err(fault) => return Err(Failure::of_fault(fault, files.script)),
-    };
-    flush(out, Failure::CannotPrint)?;
-    match files.folder {
-        Some(folder) => write_run(alloc, rt, folder, &ran),
-        None => Ok(()),
-    }
+    let opening = opening_of(alloc, rt, files.opening, out)?;
+    run_over(alloc, rt, files, opening, out)
 }
 
 /// Makes a file of the image that a command made, once its standard output is out.

@@ -29,7 +29,7 @@ use steps::{
 fn count_of<A: Allocator>(core: &Core<A>, procedure: u16) -> usize
     ensures { result ≡ count_of (slice_get core.now.catalog procedure) }
 {
-    match core.catalog().get(usize::from(procedure)) {
+    match core.catalog().procedure(usize::from(procedure)) {
         Some(procedure) => procedure.code.len(),
         None => 0,
     }

@@ -1,12 +1,13 @@
 //! The folder of a run: the images and the log that are written at its end.
 
+ghost use Rattle.std.specs.Prelude.{◌≤◌, length};
+ghost use Rattle.commitlog.specs.declared.limits.TheConstants.{RECORDS};
+
 use crate::engine::Ran;
 use crate::failures::{Failure, OutFile, RunFile};
 use crate::files::{create, flush, write_image, write_sealed};
-use commitlog::limits::RECORDS;
 use commitlog::{LogHeader, Record, WriteError, encode_to};
 use image::Image;
-use procedure::{Catalog, NoMemory, Procedure, Sequence};
 use sha2::{Digest, Sha256};
 use std::alloc::Allocator;
 use std::io::{self, BufWriter, Write};
@@ -50,22 +51,6 @@ where
     Ok(writer.hasher.finalize())
 }
 
-/// The digest of the catalog of these procedures.
-fn digest_of<A: Allocator + Copy>(
-    alloc: A,
-    procedures: &[Procedure<A>],
-) -> Result<[u8; 32], NoMemory> {
-    let mut copies = Vec::new(alloc);
-    for procedure in procedures {
-        copies.push(procedure.clone()?)?;
-    }
-    match Catalog::new(Sequence::new(copies)) {
-        Ok(catalog) => catalog.digest(),
-        // The procedures of a core are those of a catalog.
-        Err(_) => Err(NoMemory),
-    }
-}
-
 /// Makes the file of the log.
 fn write_log<'a, R: Files, A: Allocator + Copy>(
     alloc: A,
@@ -76,13 +61,12 @@ fn write_log<'a, R: Files, A: Allocator + Copy>(
 ) -> Result<(), Failure<'a>>
 where
     R::File: Drop,
+    requires { length records.now ≤ RECORDS }
 {
     let file = OutFile::InFolder(folder, RunFile::Log);
     let Ok(mut writer) = BufWriter::new(alloc, create(alloc, rt, file)?) else {
         return Err(Failure::NoMemory);
     };
-    // A core's log has no more records than a log may have.
-    let (records, _) = records.split_at(records.len().min(RECORDS));
     match encode_to(alloc, &mut writer, header, records) {
         Ok(()) => flush(&mut writer, Failure::CannotWrite(file)),
         Err(WriteError::WriteFault) => Err(Failure::CannotWrite(file)),
@@ -107,7 +91,7 @@ where
         let file = OutFile::InFolder(folder, RunFile::Image(image.number()));
         write_image(alloc, rt, file, image)?;
     }
-    let catalog = digest_of(alloc, ran.core.catalog())?;
+    let catalog = ran.core.catalog().digest()?;
     let header = LogHeader { catalog, opening };
     write_log(alloc, rt, folder, &header, ran.core.records())
 }

@@ -42,7 +42,7 @@ impl From<AllocError> for ScriptFault {
 }
 
 /// How much of a text is read.
-#[derive(Clone, Copy, Debug, PartialEq, Eq)]
+#[derive(Clone, Copy, PartialEq, Eq)]
 pub(crate) enum Part {
     /// All of it.
     Whole,

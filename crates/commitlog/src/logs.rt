@@ -95,7 +95,8 @@ impl<A: Allocator> Log<A> {
 
     /// The records, the oldest first.
     pub fn records(&self) -> &[Record<A>]
-        ensures { result.now ≡ self.now.records }
+        ensures value { result.now ≡ self.now.records }
+        ensures most { length self.now.records ≤ RECORDS }
     {
         self.records.as_slice()
     }

@@ -3,7 +3,7 @@ use super::*;
 use crate::tests::{CATALOG, NEW, SET, catalog, log_of};
 use commitlog::{LogHeader, Record, encode_v1};
 use image::{Entry, Image, Kind, seal, seal_v1};
-use procedure::{Call, Key, NoMemory, Sequence, Value};
+use procedure::{Call, Catalog, Key, NoMemory, Sequence, Value};
 use sha2::{Digest, Sha256};
 use std::alloc::Global;
 use std::test::Fail;
@@ -67,68 +67,119 @@ fn write(
     Ok(Record::call(call, outcome, Sequence::empty(alloc)).ok_or("out of range")?)
 }
 
-/// A full table takes another value for a key that it has, and refuses an insert of it, but not one key
-/// more.
+/// Why a log isn't recovered from these images, and why it doesn't pass with the first of them.
+fn refusals(
+    alloc: Global,
+    catalog: &Catalog<Global>,
+    images: &[Image<Global>],
+    bytes: &[u8],
+) -> (Option<RecoverError>, Option<AuditError>) {
+    let found = recover(alloc, catalog, images, bytes).err();
+    match images.first() {
+        Some(opening) => (found, audit(alloc, catalog, opening, bytes).err()),
+        None => (found, None),
+    }
+}
+
+/// The log of these calls, each its number, procedure, key and outcome.
+fn log_of_calls(
+    alloc: Global,
+    header: &LogHeader,
+    calls: &[(u64, u16, u32, u8)],
+) -> Result<Sequence<u8, Global>, Fail> {
+    let mut records = Vec::new(alloc);
+    for (number, procedure, key, outcome) in calls {
+        records.push(write(alloc, *number, *procedure, *key, *outcome)?)?;
+    }
+    log_of(alloc, header, records.as_slice())
+}
+
+/// Calls over a full table: another value for a key that it has, an insert of that, and a key more.
+const CALLS: [(u64, u16, u32, u8); 3] = [(1, SET, 5, 0), (2, NEW, 5, 1), (3, NEW, FULL, 0)];
+
+/// What is refused of the first so many of them.
+fn full_table_refusals(
+    alloc: Global,
+    catalog: &Catalog<Global>,
+    images: &[Image<Global>],
+    calls: usize,
+) -> Result<(Option<RecoverError>, Option<AuditError>), Fail> {
+    let header = header_of(alloc, images.first().ok_or("no opening")?)?;
+    let calls = CALLS.get(..calls).ok_or("no calls")?;
+    let log = log_of_calls(alloc, &header, calls)?;
+    Ok(refusals(alloc, catalog, images, log.as_slice()))
+}
+
+/// A full table takes the first two, but not one key more.
 #[test]
 fn full_table(rt: HostRuntime) -> Result<(), Fail> {
-    let alloc = rt.alloc();
-    let images = vec![in alloc; opening(alloc, FULL, 1)?]?;
-    let header = header_of(alloc, &images[0])?;
-    let mut records = vec![in alloc; write(alloc, 1, SET, 5, 0)?, write(alloc, 2, NEW, 5, 1)?]?;
-    for over in [false, true] {
-        if over {
-            records.push(write(alloc, 3, NEW, FULL, 0)?)?;
-        }
-        let log = log_of(alloc, &header, &records)?;
-        let bytes = log.as_slice();
-        let catalog = catalog(alloc)?;
-        let found = recover(alloc, &catalog, &images, bytes).err();
-        assert_eq!(rt; found == Some(RecoverError::TooMany), over);
-        let passed = audit(alloc, &catalog, &images[0], bytes).err();
-        assert_eq!(rt; passed == Some(AuditError::TooMany), over);
-        assert_eq!(rt; (found.is_none(), passed.is_none()), (!over, !over));
-    }
+    let catalog = catalog(rt.alloc())?;
+    let images = vec![in rt.alloc(); opening(rt.alloc(), FULL, 1)?]?;
+    let two = full_table_refusals(rt.alloc(), &catalog, images.as_slice(), 2)?;
+    assert_eq!(rt; two, (None, None));
+    let three = full_table_refusals(rt.alloc(), &catalog, images.as_slice(), 3)?;
+    let too_many = (Some(RecoverError::TooMany), Some(AuditError::TooMany));
+    assert_eq!(rt; three, too_many);
     Ok(())
 }
 
-/// An opening with a value over 256 bytes, which has no spelling in version 1.
+/// What is refused of empty logs over an opening of a value of so many bytes: in version 2, and in 1.
+fn refusals_of_value(
+    alloc: Global,
+    len: usize,
+) -> Result<[(Option<RecoverError>, Option<AuditError>); 2], Fail> {
+    let catalog = catalog(alloc)?;
+    let images = vec![in alloc; opening(alloc, 1, len)?]?;
+    let header = header_of(alloc, &images[0])?;
+    let first = first_header(alloc, &images[0])?;
+    let log = log_of(alloc, &header, &[])?;
+    let first_log = encode_v1(alloc, &first, &[])?;
+    Ok([
+        refusals(alloc, &catalog, &images, log.as_slice()),
+        refusals(alloc, &catalog, &images, first_log.as_slice()),
+    ])
+}
+
+/// An opening with a value over 256 bytes has no spelling in version 1.
 #[test]
 fn no_first_spelling(rt: HostRuntime) -> Result<(), Fail> {
-    let alloc = rt.alloc();
-    for (len, is_small) in [(256, true), (257, false)] {
-        let images = vec![in alloc; opening(alloc, 1, len)?]?;
-        let header = header_of(alloc, &images[0])?;
-        let catalog = catalog(alloc)?;
-        let second = log_of(alloc, &header, &[])?;
-        assert_eq!(rt;
-            recover(alloc, &catalog, &images, second.as_slice()).err(),
-            None
-        );
-        let bytes = encode_v1(alloc, &first_header(alloc, &images[0])?, &[])?;
-        let found = recover(alloc, &catalog, &images, bytes.as_slice()).err();
-        assert_eq!(rt; found == Some(RecoverError::WrongOpening), !is_small);
-        let passed = audit(alloc, &catalog, &images[0], bytes.as_slice()).err();
-        assert_eq!(rt; passed == Some(AuditError::WrongOpening), !is_small);
-    }
+    let wrong = (
+        Some(RecoverError::WrongOpening),
+        Some(AuditError::WrongOpening),
+    );
+    assert_eq!(rt; refusals_of_value(rt.alloc(), 256)?, [(None, None); 2]);
+    assert_eq!(rt; refusals_of_value(rt.alloc(), 257)?, [(None, None), wrong]);
     Ok(())
 }
 
-/// A log of 143,000 calls over 50,000 keys.
-#[test]
-fn many_calls(rt: HostRuntime) -> Result<(), Fail> {
-    let alloc = rt.alloc();
-    let images = vec![in alloc; opening(alloc, 0, 0)?]?;
-    let header = header_of(alloc, &images[0])?;
+/// The records of 143,000 calls over 50,000 keys.
+fn many_records(alloc: Global) -> Result<Vec<Record<Global>, Global>, Fail> {
     let mut records = Vec::new(alloc);
     for number in 0..143_000u32 {
         let procedure = if number < 50_000 { NEW } else { SET };
         records.push(write(alloc, u64::from(number), procedure, number % 50_000, 0)?)?;
     }
-    let log = log_of(alloc, &header, &records)?;
-    let found = recover(alloc, &catalog(alloc)?, &images, log.as_slice())?;
-    assert_eq!(rt;
-        (found.calls, found.torn, found.state.len()),
-        (143_000, false, 50_000)
-    );
+    Ok(records)
+}
+
+/// The log of them over these images.
+fn many_calls_log(
+    alloc: Global,
+    catalog: &Catalog<Global>,
+    images: &[Image<Global>],
+) -> Result<Sequence<u8, Global>, Fail> {
+    let header = header_of(alloc, images.first().ok_or("no opening")?)?;
+    let records = many_records(alloc)?;
+    log_of(alloc, &header, records.as_slice())
+}
+
+#[test]
+fn many_calls(rt: HostRuntime) -> Result<(), Fail> {
+    let catalog = catalog(rt.alloc())?;
+    let images = vec![in rt.alloc(); opening(rt.alloc(), 0, 0)?]?;
+    let log = many_calls_log(rt.alloc(), &catalog, images.as_slice())?;
+    let found = recover(rt.alloc(), &catalog, &images, log.as_slice())?;
+    let shape = (found.calls, found.torn, found.state.len());
+    assert_eq!(rt; shape, (143_000, false, 50_000));
     Ok(())
 }

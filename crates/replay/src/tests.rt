@@ -6,6 +6,7 @@ use image::{Entry, Image, Kind};
 use phase::Phase;
 use procedure::{Call, Catalog, Instr, Key, NoMemory, Operand, Procedure, Sequence, Table, Value};
 use std::alloc::Global;
+use std::process::Abort;
 use std::test::Fail;
 
 /// The procedures of the catalog: `get` replies what a key holds, `new` inserts and `set` puts.
@@ -380,26 +381,30 @@ fn made(alloc: Global, row: &Row<'_>) -> Result<(Sequence<u8, Global>, Vec<Image
     Ok((log_of(alloc, &header, &records)?, images))
 }
 
+/// Compares what is answered for a row.
+fn check_row(
+    rt: &impl Abort,
+    alloc: Global,
+    catalog: &Catalog<Global>,
+    row: &Row<'_>,
+    at: usize,
+) -> Result<(), Fail> {
+    let (log, images) = made(alloc, row)?;
+    let kept = log.len().saturating_sub(row.cut);
+    let bytes = &log.as_slice()[..kept];
+    let found = recovered(alloc, catalog, &images, bytes);
+    assert_eq!(rt; found, row.recovered, "{at}");
+    let opening = images.first().ok_or("no image")?;
+    let passed = audited(alloc, catalog, opening, bytes);
+    assert_eq!(rt; passed, row.audited, "{at}");
+    Ok(())
+}
+
 #[test]
 fn worked_logs(rt: HostRuntime) -> Result<(), Fail> {
-    let alloc = rt.alloc();
-    let catalog = catalog(alloc)?;
-    for (i, row) in ROWS.iter().enumerate() {
-        let (log, images) = made(alloc, row)?;
-        let kept = log.len().saturating_sub(row.cut);
-        let bytes = &log.as_slice()[..kept];
-        assert_eq!(rt;
-            recovered(alloc, &catalog, &images, bytes),
-            row.recovered,
-            "{i}"
-        );
-        if let Some(opening) = images.first() {
-            assert_eq!(rt;
-                audited(alloc, &catalog, opening, bytes),
-                row.audited,
-                "{i}"
-            );
-        }
+    let catalog = catalog(rt.alloc())?;
+    for (at, row) in ROWS.iter().enumerate() {
+        check_row(&rt, rt.alloc(), &catalog, row, at)?;
     }
     Ok(())
 }
@@ -419,32 +424,28 @@ fn both_versions(rt: HostRuntime) -> Result<(), Fail> {
     Ok(())
 }
 
+/// Why these bytes aren't recovered from full images of these numbers.
+fn refused(alloc: Global, numbers: &[u64], bytes: &[u8]) -> Result<Option<RecoverError>, Fail> {
+    let mut images = Vec::new(alloc);
+    for number in numbers {
+        images.push(image(alloc, *number, *number, None)?)?;
+    }
+    Ok(recovered(alloc, &catalog(alloc)?, &images, bytes).err())
+}
+
 /// Images and bytes that are refused before a header is looked at.
 #[test]
 fn refused_before(rt: HostRuntime) -> Result<(), Fail> {
-    let alloc = rt.alloc();
-    let catalog = catalog(alloc)?;
-    let none = Vec::new(alloc);
-    assert_eq!(rt;
-        recovered(alloc, &catalog, &none, &SECOND),
-        Err(RecoverError::NotFull)
-    );
-    let mut images = vec![in alloc; image(alloc, 0, 0, None)?]?;
-    assert_eq!(rt;
-        recovered(alloc, &catalog, &images, &SECOND[..71]),
-        Err(RecoverError::NotALog)
-    );
     let mut altered = SECOND;
     altered[202] ^= 1;
-    assert_eq!(rt;
-        recovered(alloc, &catalog, &images, &altered),
-        Err(RecoverError::Damaged(1))
-    );
-    images.push(image(alloc, 1, 1, None)?)?;
-    assert_eq!(rt;
-        recovered(alloc, &catalog, &images, &SECOND),
-        Err(RecoverError::NotPartial(0))
-    );
+    let none = refused(rt.alloc(), &[], &SECOND)?;
+    assert_eq!(rt; none, Some(RecoverError::NotFull));
+    let short = refused(rt.alloc(), &[0], &SECOND[..71])?;
+    assert_eq!(rt; short, Some(RecoverError::NotALog));
+    let damaged = refused(rt.alloc(), &[0], &altered)?;
+    assert_eq!(rt; damaged, Some(RecoverError::Damaged(1)));
+    let twice = refused(rt.alloc(), &[0, 1], &SECOND)?;
+    assert_eq!(rt; twice, Some(RecoverError::NotPartial(0)));
     Ok(())
 }
 
@@ -476,19 +477,34 @@ fn partial(alloc: Global, number: u64, base: u64, place: u64) -> Result<Image<Gl
     Ok(Image::new(Kind::Partial, number, base, place, entries).ok_or("not lawful")?)
 }
 
-#[test]
-fn chains(rt: HostRuntime) -> Result<(), Fail> {
-    let alloc = rt.alloc();
-    let catalog = catalog(alloc)?;
+/// The log of the calls and tokens.
+fn log_of_cut(alloc: Global) -> Result<Sequence<u8, Global>, Fail> {
     let header = LogHeader {
         catalog: CATALOG,
         opening: ONE,
     };
-    let log = log_of(alloc, &header, &records_of(alloc, &CUT)?)?;
+    let records = records_of(alloc, &CUT)?;
+    log_of(alloc, &header, &records)
+}
+
+/// What is recovered from the opening and a partial image.
+fn recovered_from(
+    alloc: Global,
+    partial: Image<Global>,
+    bytes: &[u8],
+) -> Result<Result<(usize, bool, Option<u64>), RecoverError>, Fail> {
+    let catalog = catalog(alloc)?;
+    let images = vec![in alloc; image(alloc, 0, 0, Some(1))?, partial]?;
+    Ok(recovered(alloc, &catalog, &images, bytes))
+}
+
+#[test]
+fn chains(rt: HostRuntime) -> Result<(), Fail> {
+    let log = log_of_cut(rt.alloc())?;
     for (number, base, place, wanted) in PARTIALS {
-        let mut images = vec![in alloc; image(alloc, 0, 0, Some(1))?]?;
-        images.push(partial(alloc, number, base, place)?)?;
-        assert_eq!(rt; recovered(alloc, &catalog, &images, log.as_slice()), wanted);
+        let partial = partial(rt.alloc(), number, base, place)?;
+        let found = recovered_from(rt.alloc(), partial, log.as_slice())?;
+        assert_eq!(rt; found, wanted);
     }
     Ok(())
 }

@@ -101,6 +101,7 @@ module _ {A : Type 0} where
         };
       };
       lawful = ok.lawful;
+      opens = ok.opens;
       small = token_small c ok Rest ok.world.number log.records (number_here c ok log Rest log_is);
       sessions = ap length calls_are ∙ length-map c.calls.items (option_map restarted_call) ∙ ok.sessions;
       tables = ok.tables;

@@ -224,6 +224,7 @@ module _ {A : Type 0} (c : Inside A) (ok : IsCore c) (s : ℕ) (call : OpenCall 
             keys frozen (ap length (before_answer ok.world.number s opened.0 ok.world.log)) ok.stands.checkpoint;
       };
       lawful = ok.lawful;
+      opens = ok.opens;
       small = smaller (commit ok.world s opened.0) (commits_here so) ok.stands.catalog ok.stands.opening (longer_log o outcome log.records log_is) (closed_calls c ok s (within c ok s call is) calls.items calls_are) (committed_versions so);
       sessions = ap length calls_are ∙ length-set c.calls.items s None ∙ ok.sessions;
       tables = ap length locks_are ∙ length-set c.locks s _ ∙ ok.tables;
@@ -252,6 +253,7 @@ module _ {A : Type 0} (c : Inside A) (ok : IsCore c) (s : ℕ) (call : OpenCall 
             keys frozen (ap length (before_answer ok.world.number s opened.0 ok.world.log)) ok.stands.checkpoint;
       };
       lawful = ok.lawful;
+      opens = ok.opens;
       small = smaller (abort ok.world s opened.0) (aborts_here not_so) ok.stands.catalog ok.stands.opening (longer_log o outcome log.records log_is) (closed_calls c ok s (within c ok s call is) calls.items calls_are) (aborted_versions not_so);
       sessions = ap length calls_are ∙ length-set c.calls.items s None ∙ ok.sessions;
       tables = ap length locks_are ∙ length-set c.locks s _ ∙ ok.tables;

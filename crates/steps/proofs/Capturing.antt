@@ -96,6 +96,7 @@ module _ {A : Type 0} (c : Inside A) (ok : IsCore c) where
         };
       };
       lawful = ok.lawful;
+      opens = ok.opens;
       small = token_small c ok Capture ok.world.number log.records (number_here c ok log Capture log_is);
       sessions = ok.sessions;
       tables = ok.tables;
@@ -174,6 +175,7 @@ module _ {A : Type 0} (c : Inside A) (ok : IsCore c) (store : Slots) (kept : Vec
         };
       };
       lawful = ok.lawful;
+      opens = ok.opens;
       small = ok.small;
       sessions = ok.sessions;
       tables = ok.tables;
@@ -318,6 +320,7 @@ module _ {A : Type 0} where
         };
       };
       lawful = ok.lawful;
+      opens = ok.opens;
       small = ok.small;
       sessions = ok.sessions;
       tables = ok.tables;

@@ -88,6 +88,7 @@ module _ {A : Type 0} (c : Inside A) (ok : IsCore c) (s : ℕ) where
             keys refl refl ok.stands.checkpoint;
       };
       lawful = ok.lawful;
+      opens = ok.opens;
       small = ok.small;
       sessions = ap length e ∙ length-set c.calls.items s None ∙ ok.sessions;
       tables = ap length f ∙ length-set c.locks s _ ∙ ok.tables;

@@ -265,6 +265,7 @@ module _ {A : Type 0} (c : Inside A) (ok : IsCore c) (phase_is : c.phase ≡ Cap
         };
       };
       lawful = ok.lawful;
+      opens = ok.opens;
       small = token_small c ok Complete w.number log.records (number_here c ok log Complete log_is);
       sessions = ok.sessions;
       tables = ok.tables;

@@ -1,3 +1,4 @@
+pub mod Filling
 pub mod OpenCalls
 pub mod Status
 pub mod Stepping

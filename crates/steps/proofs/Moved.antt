@@ -209,6 +209,7 @@ module _ {A : Type 0} (c : Inside A) (ok : IsCore c) (s : ℕ) (call : OpenCall 
         checkpoint = ok.stands.checkpoint;
       };
       lawful = ok.lawful;
+      opens = ok.opens;
       small = ok.small;
       sessions = ap length calls_are ∙ length-set c.calls.items s _ ∙ ok.sessions;
       tables = tables;
@@ -317,6 +318,7 @@ module _ {A : Type 0} (c : Inside A) (ok : IsCore c) (s : ℕ) (call : OpenCall 
             advances.on.keys refl refl ok.stands.checkpoint;
       };
       lawful = ok.lawful;
+      opens = ok.opens;
       small = ok.small;
       sessions = ap length calls_are ∙ length-set c.calls.items s _ ∙ ok.sessions;
       tables = ap length locks_are ∙ length_held_so c.locks s (touch_in call.machine) (grant c.locks s (touch_in call.machine)) ∙ ok.tables;

@@ -148,7 +148,7 @@ none_held zero s q = fin.get-empty by_bytes q
 none_held (suc n) zero q = fin.get-empty by_bytes q
 none_held (suc n) (suc s) q = none_held n s q
 
-module _ {A : Type 0} (c : Inside A) (lawful : catalog_fault c.catalog ≡ None) (log : c.log.records ≡ []) (calls : c.calls.items ≡ replicate SESSIONS None) (last : c.last.items ≡ replicate SESSIONS None)
+module _ {A : Type 0} (c : Inside A) (lawful : catalog_fault c.catalog ≡ None) (opens : is_opening c.opening ≡ true) (log : c.log.records ≡ []) (calls : c.calls.items ≡ replicate SESSIONS None) (last : c.last.items ≡ replicate SESSIONS None)
     (locks : c.locks ≡ replicate SESSIONS fin.empty) (active : c.active ≡ replicate SESSIONS None) (collecting : c.changed.collecting ≡ no_keys) (frozen : c.changed.frozen ≡ no_keys) (phase : c.phase ≡ Rest)
     (versions : (q : Bytes) → versions_in c.store q ≡ opened (value_at (table_of c.opening) q)) (most : records c.store ≤ RECORDS)
     (checkpoint : checkpoint_of c.checkpoint ≡ no_checkpoint) (number : c.checkpoint.number ≡ 0) (finished : c.checkpoint.finished ≡ 0) (aside : c.aside ≡ Unknown) where
@@ -185,6 +185,7 @@ module _ {A : Type 0} (c : Inside A) (lawful : catalog_fault c.catalog ≡ None)
       };
     };
     lawful = lawful;
+    opens = opens;
     small = subst (IsSmall c.catalog (table_of c.opening)) (sym log) (small_none c.catalog (table_of c.opening) begun_small);
     sessions = ap length calls ∙ count_nothings (OpenCall A) SESSIONS;
     tables = ap length locks ∙ count_empty_maps Mode SESSIONS;

@@ -93,6 +93,7 @@ module _ {A : Type 0} (c : Inside A) (ok : IsCore c) (log : Log) where
         };
       };
       lawful = ok.lawful;
+      opens = ok.opens;
       small = token_small c ok Resolve ok.world.number log.records (number_here Resolve log_is);
       sessions = ok.sessions;
       tables = ok.tables;
@@ -142,6 +143,7 @@ module _ {A : Type 0} (c : Inside A) (ok : IsCore c) (log : Log) where
         };
       };
       lawful = ok.lawful;
+      opens = ok.opens;
       small = token_small c ok Rest ok.world.number log.records (number_here Rest log_is);
       sessions = ok.sessions;
       tables = ok.tables;

@@ -113,6 +113,7 @@ module _ {A : Type 0} where
           (slots_same c.store c.store refl) h refl ok.stands.checkpoint;
     };
     lawful = ok.lawful;
+    opens = ok.opens;
     small = subst (IsSmall c.catalog (table_of c.opening)) (sym e) ok.small;
     sessions = ok.sessions;
     tables = ok.tables;

@@ -164,6 +164,7 @@ module _ {A : Type 0} (c : Inside A) (ok : IsCore c) (phase : c.phase ≡ Rest) 
       checkpoint = tracked;
     };
     lawful = ok.lawful;
+    opens = ok.opens;
     small = ok.small;
     sessions = ok.sessions;
     tables = ok.tables;
@@ -200,6 +201,7 @@ module _ {A : Type 0} (c : Inside A) (ok : IsCore c) (phase : c.phase ≡ Rest) 
         checkpoint = tracked;
       };
       lawful = ok.lawful;
+      opens = ok.opens;
       small = ok.small;
       sessions = ok.sessions;
       tables = ok.tables;

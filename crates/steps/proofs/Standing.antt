@@ -145,6 +145,7 @@ module _ {A : Type 0} where
         checkpoint = ok.stands.checkpoint;
       };
       lawful = ok.lawful;
+      opens = ok.opens;
       small = ok.small;
       sessions = ap length e ∙ length-set c.calls.items s (Some call) ∙ ok.sessions;
       tables = ok.tables;

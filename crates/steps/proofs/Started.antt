@@ -46,6 +46,7 @@ module _ {A : Type 0} (c : Inside A) (ok : IsCore c) (kind : Kind) (log : Log) (
       };
     };
     lawful = ok.lawful;
+    opens = ok.opens;
     small = token_small c ok Prepare (suc ok.world.number) log.records log_as;
     sessions = ok.sessions;
     tables = ok.tables;

@@ -73,6 +73,7 @@ module _ {A : Type 0} where
         };
       };
       lawful = ok.lawful;
+      opens = ok.opens;
       small = ok.small;
       sessions = ok.sessions;
       tables = ok.tables;

@@ -8,6 +8,7 @@ use Rattle.phase.specs.declared.phases.Phase.{Phase}
 use Rattle.phase.specs.declared.phases.Phase.TheVariants.{Rest}
 use Rattle.commitlog.specs.Histories.{last_number}
 use Rattle.image.specs.Merges.{table_of}
+use Rattle.image.specs.Openings.{is_opening}
 use Rattle.locktable.specs.declared.modes.Mode.{Mode}
 use Rattle.locktable.specs.declared.modes.Mode.TheVariants.{Shared, Exclusive}
 use Rattle.locktable.specs.Locks.{mode_of}
@@ -110,6 +111,7 @@ module _ {A : Type 0} where
     pub run : Runs (initial c.catalog (table_of c.opening)) world
     pub stands : Stands c world
     pub lawful : catalog_fault c.catalog ≡ None
+    pub opens : is_opening c.opening ≡ true
     pub small : IsSmall c.catalog (table_of c.opening) c.log.records
     pub sessions : length c.calls.items ≡ SESSIONS
     pub tables : length c.locks ≡ SESSIONS

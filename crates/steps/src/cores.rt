@@ -1,8 +1,10 @@
 //! The core.
 
-ghost use Rattle.std.specs.Prelude.{◌≡◌, length};
+ghost use Rattle.std.specs.Prelude.{◌≡◌, ◌≤◌, length, true};
 ghost use Rattle.commitlog.specs.Histories.{IsCyclic, IsLegal, IsOrderly, phase_of};
+ghost use Rattle.commitlog.specs.declared.limits.TheConstants.{RECORDS};
 ghost use Rattle.image.specs.Merges.{table_of};
+ghost use Rattle.image.specs.Openings.{is_opening};
 ghost use Rattle.steps.specs.CoreViews.{IsSmall};
 
 use crate::calls::OpenCall;
@@ -12,7 +14,7 @@ use commitlog::{Log, Record};
 use image::Image;
 use locktable::LockTable;
 use phase::{Active, Phase};
-use procedure::{Catalog, Procedure};
+use procedure::Catalog;
 use record_store::{Changed, Store};
 use std::alloc::Allocator;
 use std::marker::Model;
@@ -60,6 +62,7 @@ impl<A: Allocator> Core<A> {
     /// run whole, one after another, from the opening, each leaving at most 100,000 keys.
     pub fn records(&self) -> &[Record<A>]
         ensures value { result.now ≡ self.now.log }
+        ensures most { length self.now.log ≤ RECORDS }
         ensures legal { IsLegal self.now.catalog (table_of self.now.opening) self.now.log }
         ensures orderly { IsOrderly self.now.log }
         ensures cyclic { IsCyclic self.now.log }
@@ -76,15 +79,16 @@ impl<A: Allocator> Core<A> {
     }
 
     /// The procedures that calls name by their index.
-    pub fn catalog(&self) -> &[Procedure<A>]
+    pub fn catalog(&self) -> &Catalog<A>
         ensures { result.now ≡ self.now.catalog }
     {
-        self.catalog.procedures()
+        &self.catalog
     }
 
     /// The image that it was opened from.
     pub fn opening(&self) -> &Image<A>
-        ensures { result.now ≡ self.now.opening }
+        ensures value { result.now ≡ self.now.opening }
+        ensures opens { is_opening self.now.opening ≡ true }
     {
         &self.opening
     }

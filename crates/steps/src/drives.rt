@@ -45,6 +45,19 @@ fn handle_all<A: Allocator + Clone>(
     }
 }
 
+/// The replies to the events, one after another.
+fn answer_all<A: Allocator + Copy>(
+    alloc: A,
+    core: &mut Core<A>,
+    events: Vec<Event<A>, A>,
+) -> Result<Vec<Reply<A>, A>, NoMemory>
+    ensures { IfOk result (λ answers. HandlesAll events.items core.old core.new answers.items) }
+{
+    let mut answers = Vec::with_capacity(alloc, events.len())?;
+    handle_all(core, events, &mut answers);
+    Ok(answers)
+}
+
 /// Opens a core and carries out the events, one after another, each with one reply. The log is then one
 /// history of one thread, in which every answered call stands once, at the place that its answer gives,
 /// and no other call. Each image that was taken is that of its checkpoint's cut, and each chain of them
@@ -69,11 +82,10 @@ pub fn drive<A: Allocator + Copy>(
     ensures refusal { Answers (unless (is_opening opening) refused.NotAnOpening) refused.NoMemory result }
 {
     let mut core = Core::open(alloc, catalog, opening)?;
-    let mut answers = match Vec::with_capacity(alloc, events.len()) {
+    let answers = match answer_all(alloc, &mut core, events) {
         Ok(answers) => answers,
-        Err(_) => return Err(OpenError::NoMemory),
+        Err(NoMemory) => return Err(OpenError::NoMemory),
     };
-    handle_all(&mut core, events, &mut answers);
     // Brings in what holds of the log of every core.
     let _records = core.records();
     Ok(Run { core, answers })

@@ -46,8 +46,8 @@ pub(crate) fn call_of<A: Allocator>(
     ensures { option_copied result ≡ slice_index_or calls.now session None }
 {
     match calls.get(session) {
-        Some(Some(call)) => Some(call),
-        _ => None,
+        Some(held) => held.as_ref(),
+        None => None,
     }
 }
 
@@ -55,9 +55,9 @@ pub(crate) fn call_of<A: Allocator>(
 fn count_notes<A: Allocator>(calls: &[Option<OpenCall<A>>], session: usize) -> usize
     ensures { result ≡ length (notes_at calls.now session) }
 {
-    match calls.get(session) {
-        Some(Some(call)) => call.notes.len(),
-        _ => 0,
+    match call_of(calls, session) {
+        Some(call) => call.notes.len(),
+        None => 0,
     }
 }
 

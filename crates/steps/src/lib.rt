@@ -10,8 +10,6 @@
 mod begin;
 mod calls;
 pub mod captures;
-#[cfg(test)]
-mod checkpoint_tests;
 mod checkpointing;
 mod checkpoints;
 pub mod cores;
@@ -21,21 +19,13 @@ pub mod errors;
 pub mod finish;
 mod give_up;
 mod instructions;
-#[cfg(test)]
-mod large_tests;
 pub mod laws;
 mod locking;
 mod notes;
 mod open;
-#[cfg(test)]
-mod reclaim_tests;
 mod reclaiming;
-#[cfg(test)]
-mod schedule_tests;
 pub mod schedules;
 pub mod step;
-#[cfg(test)]
-mod tests;
 pub mod versions;
 
 pub use captures::Captured;

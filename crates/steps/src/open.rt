@@ -1,6 +1,7 @@
 //! How a core is opened from an image.
 
 ghost use Rattle.std.specs.Prelude.{◌≡◌, ◌≤◌, ◌↔◌, [], ℕ, IfOk, OnOk, IsTrue, None, Some, replicate};
+ghost use Rattle.std.specs.FinMap as map;
 ghost use Rattle.procedure.specs.Bytes.{Bytes};
 ghost use Rattle.procedure.specs.Table.{value_at};
 ghost use Rattle.procedure.specs.declared.limits.TheConstants.{SESSIONS};
@@ -71,25 +72,85 @@ fn no_numbers<A: Allocator>(alloc: A) -> Result<Vec<Option<u64>, A>, NoMemory>
     Ok(numbers)
 }
 
+/// What a core has at its start beside its catalog and its opening.
+#[derive(Drop)]
+struct Parts<A: Allocator> {
+    store: Store<A>,
+    locks: LockTable<A>,
+    calls: Calls<A>,
+    last: Numbers<A>,
+}
+
+/// A store of these entries.
+fn filled<A: Allocator + Copy>(alloc: A, entries: &[Entry<A>]) -> Result<Store<A>, NoMemory>
+    ensures { IfOk result (λ s. (q : Bytes) → versions_in s q ≡ opened_with (versions_in []) entries.now q) }
+{
+    let mut store = Store::new(alloc);
+    fill(&mut store, entries)?;
+    Ok(store)
+}
+
+/// The open call of each session.
+type Calls<A> = Vec<Option<OpenCall<A>>, A>;
+
+/// The last number of each session.
+type Numbers<A> = Vec<Option<u64>, A>;
+
+/// No call of any session, open or answered.
+fn free_sessions<A: Allocator + Copy>(alloc: A) -> Result<(Calls<A>, Numbers<A>), NoMemory>
+    ensures calls { IfOk result (λ s. s.0.items ≡ replicate SESSIONS None) }
+    ensures last { IfOk result (λ s. s.1.items ≡ replicate SESSIONS None) }
+{
+    let calls = free_places(alloc)?;
+    let last = no_numbers(alloc)?;
+    Ok((calls, last))
+}
+
+/// A store of these entries, no lock, and no call of any session.
+fn parts_of<A: Allocator + Copy>(alloc: A, entries: &[Entry<A>]) -> Result<Parts<A>, NoMemory>
+    ensures store { IfOk result (λ p. (q : Bytes) → versions_in p.store q ≡ opened_with (versions_in []) entries.now q) }
+    ensures locks { IfOk result (λ p. p.locks ≡ replicate SESSIONS map.empty) }
+    ensures calls { IfOk result (λ p. p.calls.items ≡ replicate SESSIONS None) }
+    ensures last { IfOk result (λ p. p.last.items ≡ replicate SESSIONS None) }
+{
+    let store = filled(alloc, entries)?;
+    let locks = LockTable::new(alloc)?;
+    let (calls, last) = free_sessions(alloc)?;
+    Ok(Parts {
+        store,
+        locks,
+        calls,
+        last,
+    })
+}
+
 /// A core at rest over a lawful opening.
-fn build<A: Allocator + Copy>(
+fn core_of<A: Allocator + Copy>(
     alloc: A,
     catalog: Catalog<A>,
     opening: Image<A>,
-) -> Result<Core<A>, NoMemory>
-    requires { IsTrue (is_opening opening) }
-    ensures { IfOk result (λ c. IsOpened catalog opening c) }
+    parts: Parts<A>,
+) -> Core<A>
+    requires opening { IsTrue (is_opening opening) }
+    requires store { (q : Bytes) → versions_in parts.store q ≡ opened_with (versions_in []) opening.entries q }
+    requires locks { parts.locks ≡ replicate SESSIONS map.empty }
+    requires calls { parts.calls.items ≡ replicate SESSIONS None }
+    requires last { parts.last.items ≡ replicate SESSIONS None }
+    ensures { IsOpened catalog opening result }
 {
     // Brings in that the catalog is lawful.
     let _procedures = catalog.procedures();
-    let mut store = Store::new(alloc);
-    fill(&mut store, opening.entries())?;
+    // Brings in that the image is lawful.
+    let _entries = opening.entries();
+    let Parts {
+        store,
+        locks,
+        calls,
+        last,
+    } = parts;
     // Brings in that the store has at most 100,000 records, and so the table as many keys.
     let _records = store.len();
-    let locks = LockTable::new(alloc)?;
-    let calls = free_places(alloc)?;
-    let last = no_numbers(alloc)?;
-    Ok(Core {
+    Core {
         alloc,
         catalog,
         opening,
@@ -103,7 +164,20 @@ fn build<A: Allocator + Copy>(
         phase: Phase::Rest,
         checkpoint: Checkpoint::none(alloc),
         aside: Aside::Unknown,
-    })
+    }
+}
+
+/// A core at rest over a lawful opening, where there is memory.
+fn build<A: Allocator + Copy>(
+    alloc: A,
+    catalog: Catalog<A>,
+    opening: Image<A>,
+) -> Result<Core<A>, NoMemory>
+    requires { IsTrue (is_opening opening) }
+    ensures { IfOk result (λ c. IsOpened catalog opening c) }
+{
+    let parts = parts_of(alloc, opening.entries())?;
+    Ok(core_of(alloc, catalog, opening, parts))
 }
 
 impl<A: Allocator + Copy> Core<A> {

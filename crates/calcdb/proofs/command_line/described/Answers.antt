@@ -10,15 +10,15 @@ returns c =
     let versioned_is : app_of c.version.result ≡ on_top (λ (s : Shape). record s { has_version = true }) (new_app (codes "calcdb")) =
     ap app_of_fields c.version.ensures ∙ ap (on_top (λ (s : Shape). record s { has_version = true })) named_is in
     let top : App = on_top (λ (s : Shape). record s { subcommand_required = true; has_version = true }) (new_app (codes "calcdb")) in
-    let top_is : app_of c.subcommand_required.result ≡ top =
-    ap app_of_fields c.subcommand_required.ensures ∙ ap (on_top (λ (s : Shape). record s { subcommand_required = true })) versioned_is in
-    let run = c.in_ok-described_run.ensures in
-    let load = c.in_ok-described_load.ensures in
-    let merge = c.in_ok-described_merge.ensures in
-    let recover = c.in_ok-described_recover.ensures in
-    let show = c.in_ok-described_show.ensures in
-    let one = command_added _ _ _ _ _ c.in_ok-subcommand.ensures run.local top_is run.app in
-    let two = command_added _ _ _ _ _ c.in_ok-subcommand-2.ensures load.local one load.app in
-    let three = command_added _ _ _ _ _ c.in_ok-subcommand-3.ensures merge.local two merge.app in
-    let four = command_added _ _ _ _ _ c.in_ok-subcommand-4.ensures recover.local three recover.app in
-    IfOk-weaker c.subcommand-5.result _ _ (λ r h. command_added _ _ _ _ _ h show.local four show.app) c.subcommand-5.ensures
+    let top_is : app_of c.subcommand_required-program.result ≡ top =
+    ap app_of_fields c.subcommand_required-program.ensures ∙ ap (on_top (λ (s : Shape). record s { subcommand_required = true })) versioned_is in
+    let run = c.described_run.ensures in
+    let load = c.described_load.ensures in
+    let merge = c.described_merge.ensures in
+    let recover = c.described_recover.ensures in
+    let show = c.described_show.ensures in
+    let one = command_added c.described_run.result _ _ _ _ c.in_ok-program.ensures run.app run.local top_is in
+    let two = command_added c.described_load.result _ _ _ _ c.in_ok-program-2.ensures load.app load.local one in
+    let three = command_added c.described_merge.result _ _ _ _ c.in_ok-program-3.ensures merge.app merge.local two in
+    let four = command_added c.described_recover.result _ _ _ _ c.in_ok-program-4.ensures recover.app recover.local three in
+    IfOk-weaker c.with_command-5.result _ _ (λ r h. command_added c.described_show.result _ _ _ _ h show.app show.local four) c.with_command-5.ensures

@@ -7,9 +7,9 @@ use Rattle.calcdb.proofs.CoreFiles.{taken_are_images}
 use Rattle.calcdb.proofs.laws.recovery_law.Goals as goal
 
 pub returns-clause-history : goal.returns-clause-history
-returns-clause-history g c = λ v h opens catalog named. record {
-  opens = opens;
-  lawful = subst IsLawful c.opening.ensures c.entries-entries.ensures.lawful;
+returns-clause-history g c = λ v h catalog named. record {
+  opens = c.opening.ensures.opens;
+  lawful = subst IsLawful c.opening.ensures.value c.entries-entries.ensures.lawful;
   catalog = catalog;
   named = named;
   legal = c.records-records.ensures.legal;

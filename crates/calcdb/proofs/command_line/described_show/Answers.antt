@@ -1,0 +1,11 @@
+use Rattle.std.proofs.Common.{ap, codes, ◌∙◌}
+use Rattle.std.proofs.lemmas.Result.{IfOk-weaker}
+use Rattle.clap.specs.Simple.{app_of_fields, new_app}
+use Rattle.calcdb.proofs.CommandLines.{IsApp, argument_added}
+use Rattle.calcdb.proofs.command_line.described_show.Goals as goal
+
+pub returns : goal.returns
+returns c =
+    let named : IsApp c.about.result (new_app (codes "show")) = (ap app_of_fields c.about.ensures ∙ c.new.ensures.app, ap (λ f. f.has_globals) c.about.ensures ∙ c.new.ensures.local) in
+    let done = IfOk-weaker c.arg.result _ _ (λ r h. argument_added _ _ _ _ _ h c.required.ensures.rule c.required.ensures.local named) c.arg.ensures in
+    record { app = IfOk-weaker c.arg.result _ _ (λ r h. h.0) done; local = IfOk-weaker c.arg.result _ _ (λ r h. h.1) done }
