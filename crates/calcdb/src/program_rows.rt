@@ -1,5 +1,5 @@
 //! Rows of command lines and of files, and how a row is run. A line of a row is one of these, with what
-//! is wanted behind `=` and in the lines below:
+//! is wanted behind `=`, as the rows of `rows.rt` have it:
 //!
 //! - `calcdb WORDS = STATUS`: the program, and below what it writes, behind `out` and `err`;
 //! - `starved calcdb WORDS = STATUS`: the same, with every growth refused;
@@ -8,7 +8,7 @@
 //! - `cramped calcdb WORDS = FILES`: the same where all answers are written; of the files, a line each with
 //!   their sizes, the first ones are whole then, and there is none behind the next one;
 //! - `bytewise calcdb WORDS = COUNT`: so many bytes are written, a byte a call, and each call in turn fails;
-//! - `unwritten calcdb WORDS = OUTPUT`: standard output takes no write, or (`unflushed`) isn't flushed;
+//! - `unwritten calcdb WORDS = -`: it ends where standard output takes no write, or can't be flushed;
 //! - `misused calcdb WORDS = -`: they ask for nothing;
 //! - `size NAME = COUNT`, or `none`; and `same NAME = NAME`: what files have;
 //! - `folder NAME = -` and `remove NAME = -`;
