@@ -114,6 +114,7 @@ const LOADS: &str = "\
 # a load
 write pairs = 'a #1
 calcdb load pairs image = 0|out image full 0 base 0 place 0 count 1 / size image = 114
+older first = image / size first = 82 / remove first = -
 calcdb show image = 0|out image full 0 base 0 place 0 count 1|out 'a #1
 scarce calcdb load pairs image = 5
 bytewise calcdb load pairs image = 36 / remove image = -
