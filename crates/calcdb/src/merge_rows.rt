@@ -1,4 +1,4 @@
-//! Rows of `merge` and of `show`, and of command lines that name no files that are there.
+//! Rows of `merge` and of `show`, of files that can't be read or written, and of words that ask for nothing.
 
 use crate::made_files::make_file;
 use crate::program_rows::check_rows;
