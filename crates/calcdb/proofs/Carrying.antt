@@ -22,7 +22,8 @@ use Rattle.calcdb.specs.declared.commands.Command.TheVariants as command
 use Rattle.calcdb.specs.declared.commands.NewCall.{NewCall}
 
 module _ {A : Type 0} where
-  pub ended : (s : ℕ) (old new : CoreView) (r : Result (Answer A) FinishError) (a : Answer A) → FinishesAs old new s r → r ≡ Ok a → Carried {A = A} (Ends s) old new (reply_text {A = A} (reply.Finish (Ok a))) []
+  pub ended : (s : ℕ) (old new : CoreView) (r : Result (Answer A) FinishError) (a : Answer A) → FinishesAs old new s r → r ≡ Ok a →
+      Carried {A = A} (Ends s) old new (reply_text {A = A} (reply.Finish (Ok a))) []
   ended s old new r a h is = record {
     events = event.Finish s ∷ [];
     replies = reply.Finish r ∷ [];
@@ -31,7 +32,8 @@ module _ {A : Type 0} where
     taken = refl;
   }
 
-  pub end_refused : (s : ℕ) (old mid new : CoreView) (r : Result (Answer A) FinishError) (e : FinishError) (g : Result (Unit {0}) NotActive) → FinishesAs old mid s r → r ≡ Err e → GivesUpAs mid new s g →
+  pub end_refused : (s : ℕ) (old mid new : CoreView) (r : Result (Answer A) FinishError) (e : FinishError) (g : Result (Unit {0}) NotActive) → FinishesAs old mid s r → r ≡ Err e →
+      GivesUpAs mid new s g →
       Carried {A = A} (Ends s) old new (reply_text {A = A} (reply.Finish (Err e))) []
   end_refused s old mid new r e g h is up = record {
     events = event.Finish s ∷ event.GiveUp s ∷ [];
@@ -41,7 +43,8 @@ module _ {A : Type 0} where
     taken = refl;
   }
 
-  pub ran : (n s : ℕ) (old mid new : CoreView) (r : Result Stepped StepError) (text : Bytes) (images : List Image) → StepsAs old mid s r → r ≡ Ok Ran → Carried {A = A} (GoesOn n s) mid new text images → Carried {A = A} (GoesOn (suc n) s) old new text images
+  pub ran : (n s : ℕ) (old mid new : CoreView) (r : Result Stepped StepError) (text : Bytes) (images : List Image) → StepsAs old mid s r → r ≡ Ok Ran →
+      Carried {A = A} (GoesOn n s) mid new text images → Carried {A = A} (GoesOn (suc n) s) old new text images
   ran n s old mid new r text images h is c = record {
     events = event.Step s ∷ c.events;
     replies = reply.Step r ∷ c.replies;
@@ -50,7 +53,8 @@ module _ {A : Type 0} where
     taken = c.taken;
   }
 
-  pub made_ready : (n s : ℕ) (old mid new : CoreView) (r : Result Stepped StepError) (text : Bytes) (images : List Image) → StepsAs old mid s r → r ≡ Ok Ready → Carried {A = A} (Ends s) mid new text images → Carried {A = A} (GoesOn (suc n) s) old new text images
+  pub made_ready : (n s : ℕ) (old mid new : CoreView) (r : Result Stepped StepError) (text : Bytes) (images : List Image) → StepsAs old mid s r → r ≡ Ok Ready →
+      Carried {A = A} (Ends s) mid new text images → Carried {A = A} (GoesOn (suc n) s) old new text images
   made_ready n s old mid new r text images h is c = record {
     events = event.Step s ∷ c.events;
     replies = reply.Step r ∷ c.replies;
@@ -69,7 +73,8 @@ module _ {A : Type 0} where
     taken = refl;
   }
 
-  pub call_refused : (catalog : List Procedure) (c : NewCall (List Bytes)) (b : Event A) (old new : CoreView) (r : Result (Unit {0}) BeginError) (e : BeginError) → Begins c b → Handles b old new (reply.Begin r) → r ≡ Err e →
+  pub call_refused : (catalog : List Procedure) (c : NewCall (List Bytes)) (b : Event A) (old new : CoreView) (r : Result (Unit {0}) BeginError) (e : BeginError) → Begins c b →
+      Handles b old new (reply.Begin r) → r ≡ Err e →
       Carried {A = A} (Calls catalog c) old new (reply_text {A = A} (reply.Begin (Err e))) []
   call_refused catalog c b old new r e begins h is = record {
     events = b ∷ [];
@@ -79,7 +84,8 @@ module _ {A : Type 0} where
     taken = refl;
   }
 
-  pub call_begun : (catalog : List Procedure) (c : NewCall (List Bytes)) (b : Event A) (old mid new : CoreView) (r : Result (Unit {0}) BeginError) (count : ℕ) (text : Bytes) (images : List Image) → Begins c b → Handles b old mid (reply.Begin r) → r ≡ Ok tt →
+  pub call_begun : (catalog : List Procedure) (c : NewCall (List Bytes)) (b : Event A) (old mid new : CoreView) (r : Result (Unit {0}) BeginError) (count : ℕ) (text : Bytes) (images : List Image) →
+      Begins c b → Handles b old mid (reply.Begin r) → r ≡ Ok tt →
       count ≡ count_of (slice_get catalog c.procedure) → Carried {A = A} (GoesOn count c.session) mid new text images → Carried {A = A} (Calls catalog c) old new text images
   call_begun catalog c b old mid new r count text images begins h is counted on = record {
     events = b ∷ on.events;
@@ -94,5 +100,6 @@ module _ {A : Type 0} where
   one e old new r h = record { events = e ∷ []; replies = r ∷ []; handled = (new, h, refl); says = (r, refl, refl, refl); taken = sym (append-nil (image_in r)) }
 
   -- by which a call begins
-  pub one_begin : (catalog : List Procedure) (c : NewCall (List Bytes)) (b : Event A) (old new : CoreView) (text : Bytes) (images : List Image) → Begins c b → Carried {A = A} (Says b) old new text images → Carried {A = A} (Carries catalog (command.Begin c)) old new text images
+  pub one_begin : (catalog : List Procedure) (c : NewCall (List Bytes)) (b : Event A) (old new : CoreView) (text : Bytes) (images : List Image) → Begins c b →
+      Carried {A = A} (Says b) old new text images → Carried {A = A} (Carries catalog (command.Begin c)) old new text images
   one_begin catalog c b old new text images begins h = record { events = h.events; replies = h.replies; handled = h.handled; says = (b, begins, h.says); taken = h.taken }

@@ -29,7 +29,7 @@ use Rattle.steps.specs.declared.schedules.Event.TheVariants as event
 use Rattle.steps.specs.declared.schedules.Reply.{Reply}
 use Rattle.steps.specs.declared.step.Stepped.{Stepped}
 use Rattle.calcdb.specs.Runs.{Carried, Carries, CarriesAll, Sent}
-use Rattle.calcdb.specs.Streams.{IsBegun}
+use Rattle.procedure.specs.Streams.{IsBegun}
 use Rattle.calcdb.specs.declared.commands.Command.{Command}
 use Rattle.calcdb.specs.declared.faults.Fault.{Fault}
 use Rattle.calcdb.specs.declared.faults.Fault.TheVariants as fault
@@ -143,7 +143,8 @@ module _ {A : Type 0} where
     carries_more catalog cs c es2 fs rs2 qs t2 u others h,
   )
 
-  pub catalog_kept : (P : List (Event A) → List (Reply A) → Bytes → Type 0) (old new : CoreView) (text : Bytes) (images : List Image) → Carried {A = A} P old new text images → new.catalog ≡ old.catalog
+  pub catalog_kept : (P : List (Event A) → List (Reply A) → Bytes → Type 0) (old new : CoreView) (text : Bytes) (images : List Image) → Carried {A = A} P old new text images →
+      new.catalog ≡ old.catalog
   catalog_kept P old new text images c = events_kept c.events old new c.replies c.handled
 
   pub carried_none : (catalog : List Procedure) (v : CoreView) → Carried {A = A} (CarriesAll catalog []) v v [] []

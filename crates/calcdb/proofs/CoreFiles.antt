@@ -14,7 +14,7 @@ use Rattle.steps.specs.CutImages.{AllTaken, IsTaken}
 use Rattle.steps.specs.CutImages as taking
 
 module _ (c : List Procedure) (t : Table) (l : List Record) where
-  of_kind : (k : Kind) (i : cuts.Image) → taking.IsOfKind k c t l i → recovering.IsOfKind k c t l i
+  of_kind : (k : Kind) (i : cuts.CutImage) → taking.IsOfKind k c t l i → recovering.IsOfKind k c t l i
   of_kind Full i is = is
   of_kind Partial i is = is
 

@@ -26,7 +26,8 @@ beyond_by : (most n : ℕ) (v : Bool) → nat_le n most ≡ v → cond v (Some n
 beyond_by most n true e h = absurd (cc)
 beyond_by most n false e h = leb-false n most e
 
-digit_on : (most n : ℕ) (bs : Bytes) (o : Option ℕ) → most < n → ((m : ℕ) → most < m → (decimal_after m bs >>= at_most most) ≡ None) → ((o >>= λ d. decimal_after (n * 10 + d) bs) >>= at_most most) ≡ None
+digit_on : (most n : ℕ) (bs : Bytes) (o : Option ℕ) → most < n → ((m : ℕ) → most < m → (decimal_after m bs >>= at_most most) ≡ None) →
+    ((o >>= λ d. decimal_after (n * 10 + d) bs) >>= at_most most) ≡ None
 digit_on most n bs None h ind = refl
 digit_on most n bs (Some d) h ind = ind (n * 10 + d) (omega (arith, h))
 

@@ -4,7 +4,7 @@ use Rattle.std.specs.Io.KnownBytes.{Appends}
 use Rattle.procedure.specs.Bytes.{Bytes}
 use Rattle.calcdb.specs.Outcomes.{HasLine, fault_text}
 use Rattle.calcdb.specs.Refusing.{Declines, FailsAs, IsLine, IsSaid, Suits, no_memory}
-use Rattle.calcdb.specs.Streams.{IsBegun}
+use Rattle.procedure.specs.Streams.{IsBegun}
 use Rattle.calcdb.specs.declared.faults.Fault.{Fault}
 use Rattle.calcdb.specs.declared.faults.Fault.TheVariants as fault
 use Rattle.calcdb.specs.declared.faults.Reason.{Reason}
@@ -46,12 +46,14 @@ module _ (P Q : Fault → Type 0) (S T : Bytes → Type 0) (faults : (f : Fault)
   fails_wider fault.Write (text, is, out) = (text, wider_line text is, out)
   fails_wider fault.NoMemory h = absurd h
 
-pub suits_said : {X : Type 0} (f x : Fault) (old new : Option Bytes) (r : Reason) (says : Result X Reason) → f ≡ fault.Refused r → (r ≡ reason.NoMemory) ⊎ (says ≡ Err r) → IsSaid f old new x → Suits x says
+pub suits_said : {X : Type 0} (f x : Fault) (old new : Option Bytes) (r : Reason) (says : Result X Reason) → f ≡ fault.Refused r → (r ≡ reason.NoMemory) ⊎ (says ≡ Err r) → IsSaid f old new x →
+    Suits x says
 suits_said f x old new r says is told (inl (same, out)) = rw (same, is) told
 suits_said f x old new r says is told (inr (same, out)) = rw same tt
 
 -- a reason that was declined is that of the input
-pub suits_declined : {X : Type 0} (x : Fault) (old new : Option Bytes) (r : Reason) (says : Result X Reason) → (r ≡ reason.NoMemory) ⊎ (says ≡ Err r) → Declines (fault.Refused r) old new x → Suits x says
+pub suits_declined : {X : Type 0} (x : Fault) (old new : Option Bytes) (r : Reason) (says : Result X Reason) → (r ≡ reason.NoMemory) ⊎ (says ≡ Err r) → Declines (fault.Refused r) old new x →
+    Suits x says
 suits_declined x old new r says told (inl h) = suits_said (fault.Refused r) x old new r says refl told h
 suits_declined x old new r says told (inr h) = suits_said no_memory x old new reason.NoMemory says refl (inl refl) h
 

@@ -8,7 +8,7 @@ use Rattle.image.specs.Images.{Image}
 use Rattle.steps.specs.CoreViews.{CoreView}
 use Rattle.image.specs.Openings.{is_opening}
 use Rattle.steps.specs.Openings.{IsOpened}
-use Rattle.calcdb.specs.Outcomes.{EndsAs, IsFault, Refuses, RefusesScript, StopsAs, fault_text}
+use Rattle.calcdb.specs.Outcomes.{EndsRun, IsRunFault, Refuses, RefusesScript, StopsAs, fault_text}
 use Rattle.calcdb.specs.Runs.{Carried, CarriesAll, HasRun}
 use Rattle.calcdb.specs.declared.commands.Command.{Command}
 use Rattle.calcdb.specs.declared.scripts.ScriptFault.TheVariants as script
@@ -20,15 +20,15 @@ use Rattle.calcdb.specs.declared.scripts.TheConstants.{SCRIPT_BYTES}
 
 module _ (A : Type 0) where
   module _ (says : Result Script ScriptFault) (opening : Image) (old new : Option Bytes) where
-    pub ends_refused : (f r : Fault) → IsFault A says opening f → Refuses f old new r → EndsAs A says opening old new r
+    pub ends_refused : (f r : Fault) → IsRunFault A says opening f → Refuses f old new r → EndsRun A says opening old new r
     ends_refused f fault.Read is h = absurd h
     ends_refused f fault.Write is h = inr (fault_text f, inr (f, is, refl), h)
     ends_refused f fault.NoMemory is h = inr (fault_text f, inr (f, is, refl), h)
-    ends_refused f (fault.Line n) is (same, out) = (subst (IsFault A says opening) same is, subst (λ g. Appends old new (fault_text g)) same out)
-    ends_refused f fault.Size is (same, out) = (subst (IsFault A says opening) same is, subst (λ g. Appends old new (fault_text g)) same out)
-    ends_refused f (fault.Refused r) is (same, out) = (subst (IsFault A says opening) same is, subst (λ g. Appends old new (fault_text g)) same out)
+    ends_refused f (fault.Line n) is (same, out) = (subst (IsRunFault A says opening) same is, subst (λ g. Appends old new (fault_text g)) same out)
+    ends_refused f fault.Size is (same, out) = (subst (IsRunFault A says opening) same is, subst (λ g. Appends old new (fault_text g)) same out)
+    ends_refused f (fault.Refused r) is (same, out) = (subst (IsRunFault A says opening) same is, subst (λ g. Appends old new (fault_text g)) same out)
 
-    pub ends_stopped : (s : Script) (f : Fault) → is_opening opening ≡ true → says ≡ Ok s → StopsAs A s opening old new f → EndsAs A says opening old new f
+    pub ends_stopped : (s : Script) (f : Fault) → is_opening opening ≡ true → says ≡ Ok s → StopsAs A s opening old new f → EndsRun A says opening old new f
     ends_stopped s f lawful reads (inl (is, out)) = rw is (inl out)
     ends_stopped s fault.Write lawful reads (inr (first, core, text, opened, run, sent)) =
         inr (text, inl (record { lawful = lawful; script = s; reads = reads; first = first; core = core; opened = opened; run = run }), sent)
@@ -58,19 +58,21 @@ same_reading (Some xs) (Some ys) source text is h at_end =
 
 module _ {A : Type 0} where
   -- in the words of the script
-  pub carried_script : (s : Script) (opening : Image) (core new : CoreView) (commands : List (Command (List Bytes))) (text : Bytes) (images : List Image) → IsOpened s.catalog opening core → commands ≡ s.commands →
+  pub carried_script : (s : Script) (opening : Image) (core new : CoreView) (commands : List (Command (List Bytes))) (text : Bytes) (images : List Image) → IsOpened s.catalog opening core →
+      commands ≡ s.commands →
       Carried {A = A} (CarriesAll core.catalog commands) core new text images → Carried {A = A} (CarriesAll s.catalog s.commands) core new text images
   carried_script s opening core new commands text images opened same h =
       subst (λ k. Carried {A = A} (CarriesAll k s.commands) core new text images) opened.catalog (subst (λ l. Carried {A = A} (CarriesAll core.catalog l) core new text images) same h)
 
-pub run_script_for : (A : Type 0) (s : Script) (opening : Image) (core new : CoreView) (commands : List (Command (List Bytes))) (text : Bytes) → IsOpened s.catalog opening core → commands ≡ s.commands →
+pub run_script_for : (A : Type 0) (s : Script) (opening : Image) (core new : CoreView) (commands : List (Command (List Bytes))) (text : Bytes) → IsOpened s.catalog opening core →
+    commands ≡ s.commands →
     HasRun A core.catalog commands core new text → HasRun A s.catalog s.commands core new text
 run_script_for A s opening core new commands text opened same h =
     subst (λ k. HasRun A k s.commands core new text) opened.catalog (subst (λ l. HasRun A core.catalog l core new text) same h)
 
 module _ (A : Type 0) (says : Result Script ScriptFault) (opening : Image) (old new : Option Bytes) where
   -- a text that is no script
-  pub ends_script : (f : ScriptFault) (r : Fault) → is_opening opening ≡ true → (f ≡ script.NoMemory) ⊎ (says ≡ Err f) → RefusesScript f old new r → EndsAs A says opening old new r
+  pub ends_script : (f : ScriptFault) (r : Fault) → is_opening opening ≡ true → (f ≡ script.NoMemory) ⊎ (says ≡ Err f) → RefusesScript f old new r → EndsRun A says opening old new r
   ends_script (script.Line n) r lawful (inl e) h = absurd (cc)
   ends_script (script.Line n) r lawful (inr reads) h = ends_refused A says opening old new (fault.Line n) r (lawful, reads) h
   ends_script script.Size r lawful (inl e) h = absurd (cc)

@@ -61,7 +61,8 @@ unled b bs i only (Ok (j ∷ js)) (is, h) = (Ok js, h, ap (λ (k : Image). Ok (k
 unled b bs i only (Err r) (e, inl is, same) = absurd (not_refused b i e only is)
 unled b bs i only (Err r) (e, inr (j, is, h), same) = (Err r, (e, h, same), refl)
 
-pub read_more : (files left : List Bytes) (b : Bytes) (bs : List Bytes) (images : List Image) (i : Image) → left ≡ b ∷ bs → IsRead files left images → IsImageSpelling i b → IsOnly b (Ok i) → IsRead files bs (images ++ i ∷ [])
+pub read_more : (files left : List Bytes) (b : Bytes) (bs : List Bytes) (images : List Image) (i : Image) → left ≡ b ∷ bs → IsRead files left images → IsImageSpelling i b → IsOnly b (Ok i) →
+    IsRead files bs (images ++ i ∷ [])
 read_more files left b bs images i parts so_far is only = record {
   whole = λ rest h.
       rw (← behind_one images i rest) (so_far.whole (behind (i ∷ []) rest) (rw parts (led b bs i is rest h)));
@@ -85,7 +86,8 @@ refused_here b bs e only (Err r) (x, inl is, same) =
     elim (only (Err x) is) [ inl y ↦ (let which : e ≡ x = cc in inr (rw which (ap (λ (s : Reason). Err s) same))) | inr y ↦ inl (cc) ]
 refused_here b bs e only (Err r) (x, inr (j, is, h), same) = elim (only (Ok j) is) [ inl y ↦ absurd (cc) | inr y ↦ inl (cc) ]
 
-pub stops : (files left : List Bytes) (b : Bytes) (bs : List Bytes) (images : List Image) (e : ReadError) → left ≡ b ∷ bs → IsRead files left images → (◌≡◌ {A = Result Image ReadError} (Err e) (Err read.NoMemory)) ⊎ Refuses e b →
+pub stops : (files left : List Bytes) (b : Bytes) (bs : List Bytes) (images : List Image) (e : ReadError) → left ≡ b ∷ bs → IsRead files left images →
+    (◌≡◌ {A = Result Image ReadError} (Err e) (Err read.NoMemory)) ⊎ Refuses e b →
     (read_reason e ≡ reason.NoMemory) ⊎ AreRead files (Err (read_reason e))
 stops files left b bs images e parts so_far (inl none) = (let wanting : e ≡ read.NoMemory = cc in inl (ap read_reason wanting))
 stops files left b bs images e parts so_far (inr is) = inr (so_far.whole (Err (read_reason e)) (rw parts (e, inl is, refl)))

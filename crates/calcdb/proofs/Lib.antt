@@ -6,7 +6,6 @@ pub mod Decimals
 pub mod Declined
 pub mod Endings
 pub mod FileReadings
-pub mod Goings
 pub mod InstructionLines
 pub mod Lawful
 pub mod Loading

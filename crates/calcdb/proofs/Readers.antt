@@ -1,18 +1,18 @@
 -- Errors that a reader hands on.
 use Rattle.std.proofs.Common.{◌≡◌, List, ◌++◌, Option, Some, None, Result, Ok, Err}
 use Rattle.std.specs.Result.{IsErrAnd}
-use Rattle.calcdb.specs.Reads.{◌>>=◌, Fails, Gives}
-use Rattle.calcdb.specs.declared.unread.Unread.{Unread}
-use Rattle.calcdb.specs.declared.unread.Unread.TheVariants.{Faulty, NoMemory}
+use Rattle.calcdb.specs.Reads.{◌>>=◌, FailsToRead, ReadsAs}
+use Rattle.calcdb.specs.declared.faults.unread.Unread.{Unread}
+use Rattle.calcdb.specs.declared.faults.unread.Unread.TheVariants.{Faulty, NoMemory}
 
 -- where a part isn't read, what it is a part of isn't
-pub fails_on : {X Y : Type 0} (e : Unread) (part : Option X) (read : Option Y) → (part ≡ None → read ≡ None) → Fails e part → Fails e read
+pub fails_on : {X Y : Type 0} (e : Unread) (part : Option X) (read : Option Y) → (part ≡ None → read ≡ None) → FailsToRead e part → FailsToRead e read
 fails_on Faulty part read whole h = whole h
 fails_on NoMemory part read whole h = tt
 
 -- the error of a part is handed on for the whole
 pub handed_on : {X Y A : Type 0} (view : A → Y) (r : Result A Unread) (e : Unread) (part : Option X) (read : Option Y) →
-    IsErrAnd r (λ f. f ≡ e) → Fails e part → (part ≡ None → read ≡ None) → Gives view r read
+    IsErrAnd r (λ f. f ≡ e) → FailsToRead e part → (part ≡ None → read ≡ None) → ReadsAs view r read
 handed_on view (Ok x) e part read is h whole = absurd is
 handed_on view (Err f) e part read is h whole = rw is (fails_on e part read whole h)
 

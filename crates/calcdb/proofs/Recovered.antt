@@ -14,7 +14,7 @@ use Rattle.commitlog.specs.declared.formats.LogHeader.{LogHeader}
 use Rattle.commitlog.specs.declared.formats.Version.{Version}
 use Rattle.commitlog.specs.declared.decoding.Ending.{Ending}
 use Rattle.image.specs.Images.{Image}
-use Rattle.image.specs.Merges.{Refusal, chain_refusal, last_of, merged_image, refusal_of, table_after, table_of, unless}
+use Rattle.image.specs.Merges.{Refusal, chain_refusal, last_of, merged_image, refusal_of, table_with_images, table_of, unless}
 use Rattle.image.specs.declared.limits.TheConstants.{ENTRIES}
 use Rattle.image.specs.declared.merges.MergeError.{MergeError}
 use Rattle.image.specs.declared.merges.MergeError.TheVariants.{TooMany}
@@ -45,7 +45,7 @@ unless_none false e h = absurd (cc)
 module _ (full : Image) (ps : List Image) where
   few_merged : refusal_of full ps ≡ None → len (table_of (merged_image full ps)) ≤ ENTRIES
   few_merged none =
-      let t = table_after (table_of full) ps in
+      let t = table_with_images (table_of full) ps in
       let small = unless_none (nat_le (len t) ENTRIES) TooMany (or_none (chain_refusal full ps) (unless (nat_le (len t) ENTRIES) TooMany) none) in
       subst (λ (u : Table). len u ≤ ENTRIES) (sym (table_of-full (last_of full ps).number (last_of full ps).place t)) (leb-true (len t) ENTRIES small)
 
@@ -77,6 +77,7 @@ few_recovery c is text (Ok r) told = few_of c text is (chain_of is) r refl told
 few_recovery c is text (Err e) told = tt
 
 -- what is answered has at most 100,000 keys
-pub few_recovered : (c : List Procedure) (is : List Image) (text : Bytes) (x : Result Recovery RecoverError) → IsRecovery c is text x ⊎ (x ≡ Err refused.NoMemory) → IfOk x (λ (r : Recovery). len r.state ≤ ENTRIES)
+pub few_recovered : (c : List Procedure) (is : List Image) (text : Bytes) (x : Result Recovery RecoverError) → IsRecovery c is text x ⊎ (x ≡ Err refused.NoMemory) →
+    IfOk x (λ (r : Recovery). len r.state ≤ ENTRIES)
 few_recovered c is text x (inl told) = few_recovery c is text x told
 few_recovered c is text x (inr none) = rw none tt

@@ -9,7 +9,7 @@ use Rattle.replay.specs.declared.errors.RecoverError.TheVariants as refused
 use Rattle.calcdb.specs.ImageFiles.{AreRead, Spell}
 use Rattle.calcdb.specs.OwnFiles.{OfScript, OfSpelled, OrNoMemory}
 use Rattle.calcdb.specs.Reasons.{Tells, recover_reason}
-use Rattle.calcdb.specs.Recovering.{IsRecovered, OfFiles, OfImages, answered, as_fault}
+use Rattle.calcdb.specs.Recovering.{IsRecovered, OfFiles, OfImages, recovery_in_words, as_fault}
 use Rattle.calcdb.specs.Refusing.{no_memory, text_fault}
 use Rattle.calcdb.specs.Scripts.{catalog_of}
 use Rattle.calcdb.specs.declared.faults.Fault.{Fault}
@@ -42,16 +42,16 @@ module _ (c : List Procedure) (log : Bytes) (files : List Bytes) where
   only_refused x only says (read, h, told) = elim (only read h) [ inl none ↦ inl none | inr which ↦ inr (rw which at told) ]
 
   only_of_images : (is : List Image) (x : Result Recovery RecoverError) → ((a : Result Recovery RecoverError) → IsRecovery c is log a → (x ≡ a) ⊎ (x ≡ Err refused.NoMemory)) →
-      (says : Result Recovery Reason) → OfImages c log (Ok is) says → Tells (λ r. r) (answered x) says
+      (says : Result Recovery Reason) → OfImages c log (Ok is) says → Tells (λ r. r) (recovery_in_words x) says
   only_of_images is x only says (a, told, same) =
       elim (only a told) [
-        | inl which ↦ rw (same, ← which) (tells_itself (answered x))
+        | inl which ↦ rw (same, ← which) (tells_itself (recovery_in_words x))
         | inr none ↦ rw none (inl refl)
       ]
 
   pub only_recovered : (is : List Image) (x : Result Recovery RecoverError) → ((read : Result (List Image) Reason) → AreRead files read → read ≡ Ok is) →
       ((a : Result Recovery RecoverError) → IsRecovery c is log a → (x ≡ a) ⊎ (x ≡ Err refused.NoMemory)) →
-      (says : Result Recovery Reason) → OfFiles c log files says → Tells (λ r. r) (answered x) says
+      (says : Result Recovery Reason) → OfFiles c log files says → Tells (λ r. r) (recovery_in_words x) says
   only_recovered is x one only says (read, h, told) =
       let which = one read h in
       only_of_images is x only says (rw which at told)
@@ -60,14 +60,16 @@ module _ (c : List Procedure) (log : Bytes) (files : List Bytes) where
   pub spelled_refused : (x : Reason) → ((read : Result (List Image) Reason) → AreRead files read → (x ≡ reason.NoMemory) ⊎ (read ≡ Err x)) → OfSpelled c log files (Err x)
   spelled_refused x only is spell = elim (only (Ok is) spell) [ inl none ↦ (Err refused.NoMemory, inr refl, inr (ap (λ (r : Reason). Err r) none)) | inr which ↦ absurd (cc) ]
 
-  pub spelled_recovered : (js : List Image) (a : Result Recovery RecoverError) → ((read : Result (List Image) Reason) → AreRead files read → read ≡ Ok js) → OrNoMemory c js log a → OfSpelled c log files (answered a)
+  pub spelled_recovered : (js : List Image) (a : Result Recovery RecoverError) → ((read : Result (List Image) Reason) → AreRead files read → read ≡ Ok js) → OrNoMemory c js log a →
+      OfSpelled c log files (recovery_in_words a)
   spelled_recovered js a one told is spell =
       let given : Ok is ≡ Ok js = one (Ok is) spell in
       let same : is ≡ js = cc in
       (a, rw same told, inl refl)
 
 -- and of a script's procedures
-pub only_by_script : (script log : Bytes) (files : List Bytes) (c : List Procedure) (x : Result Recovery Reason) → catalog_of script ≡ Ok c → ((a : Result Recovery Reason) → OfFiles c log files a → Tells (λ r. r) x a) →
+pub only_by_script : (script log : Bytes) (files : List Bytes) (c : List Procedure) (x : Result Recovery Reason) → catalog_of script ≡ Ok c →
+    ((a : Result Recovery Reason) → OfFiles c log files a → Tells (λ r. r) x a) →
     (says : Result Recovery Fault) → IsRecovered script log files says → (as_fault x ≡ says) ⊎ (as_fault x ≡ Err no_memory)
 only_by_script script log files c (Ok r) reads only says told =
     let (a, h, same) = rw reads at told in

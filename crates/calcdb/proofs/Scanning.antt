@@ -60,7 +60,8 @@ module _ {A : Type 0} where
         cursor = omega (arith, on, v.cursor);
       }
 
-  ends_with : (first core new : CoreView) (r : Result Captured CaptureError) (v : Visited A first core) (text : List ℕ) → VisitsAs core new r → EndsScan v.count r text → Carried {A = A} Scans first new text []
+  ends_with : (first core new : CoreView) (r : Result Captured CaptureError) (v : Visited A first core) (text : List ℕ) → VisitsAs core new r → EndsScan v.count r text →
+      Carried {A = A} Scans first new text []
   ends_with first core new r v text h ends = record {
     events = captures A v.count ++ event.Capture ∷ [];
     replies = visits A v.count ++ reply.Capture r ∷ [];
@@ -70,7 +71,8 @@ module _ {A : Type 0} where
   }
 
   -- no place is left
-  pub scanned : (first core new : CoreView) (r : Result Captured CaptureError) (m : ℕ) → Visited A first core → VisitsAs core new r → r ≡ Ok Done → m ≡ new.checkpoint.cursor - first.checkpoint.cursor →
+  pub scanned : (first core new : CoreView) (r : Result Captured CaptureError) (m : ℕ) → Visited A first core → VisitsAs core new r → r ≡ Ok Done →
+      m ≡ new.checkpoint.cursor - first.checkpoint.cursor →
       Carried {A = A} Scans first new (numbered_text (codes "slots ") m) []
   scanned first core new r m v h is counted =
       let same = stays core new r h is in
@@ -78,6 +80,7 @@ module _ {A : Type 0} where
       ends_with first core new r v (numbered_text (codes "slots ") m) h (subst (λ x. EndsScan v.count x (numbered_text (codes "slots ") m)) (sym is) (ap (λ n. numbered_text (codes "slots ") n) all))
 
   -- a capture is refused
-  pub scan_refused : (first core new : CoreView) (r : Result Captured CaptureError) (e : CaptureError) → Visited A first core → VisitsAs core new r → r ≡ Err e → Carried {A = A} Scans first new (reply_text {A = A} (reply.Capture (Err e))) []
+  pub scan_refused : (first core new : CoreView) (r : Result Captured CaptureError) (e : CaptureError) → Visited A first core → VisitsAs core new r → r ≡ Err e →
+      Carried {A = A} Scans first new (reply_text {A = A} (reply.Capture (Err e))) []
   scan_refused first core new r e v h is =
       ends_with first core new r v (reply_text {A = A} (reply.Capture (Err e))) h (subst (λ x. EndsScan v.count x (reply_text {A = A} (reply.Capture (Err e)))) (sym is) refl)

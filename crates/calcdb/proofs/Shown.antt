@@ -17,14 +17,14 @@ use Rattle.calcdb.specs.Outcomes.{fault_text}
 use Rattle.calcdb.specs.Output.{entries_text, entry_text, image_text, value_text}
 use Rattle.calcdb.specs.Reasons.{log_reason, read_reason}
 use Rattle.calcdb.specs.Refusing.{Declines, FailsAs, IsSaid, Suits, no_memory}
-use Rattle.calcdb.specs.Showing.{Agrees, EndsAs, IsFault, PrintsImage, PrintsLog, StopsIn, arguments_text, of_image, of_reading, record_text, records_text}
-use Rattle.calcdb.specs.Streams.{IsBegun}
+use Rattle.calcdb.specs.Showing.{AgreesWithPrint, EndsShow, IsShowFault, PrintsImage, PrintsLog, StopsIn, arguments_text, of_image, of_reading, record_text, records_text}
+use Rattle.procedure.specs.Streams.{IsBegun}
 use Rattle.calcdb.specs.declared.faults.Fault.{Fault}
 use Rattle.calcdb.specs.declared.faults.Fault.TheVariants as fault
 use Rattle.calcdb.specs.declared.faults.Reason.{Reason}
 use Rattle.calcdb.specs.declared.faults.Reason.TheVariants as reason
 use Rattle.calcdb.proofs.Declined.{declined, fails_wider, suits_said}
-use Rattle.calcdb.proofs.Goings.{Gone, begun_on}
+use Rattle.procedure.proofs.WriteProgress.{Gone, begun_on}
 use Rattle.calcdb.proofs.Printed.{next_is}
 
 -- ---- where a text stops
@@ -88,12 +88,13 @@ stops_suits text old new f says (inl (is, begun)) = rw is tt
 stops_suits text old new f says (inr (middle, begun, said)) = suits_said no_memory f middle new reason.NoMemory says refl (inl refl) said
 
 -- a text that was written, or stopped, is what is said
-pub told_agrees : (r : Result (Unit {0}) Fault) (says : Result Bytes Reason) (text : Bytes) (old new : Option Bytes) → says ≡ Ok text → OnOk r (Appends old new text) → IfErr r (λ f. StopsIn text old new f) → Agrees r says old new
+pub told_agrees : (r : Result (Unit {0}) Fault) (says : Result Bytes Reason) (text : Bytes) (old new : Option Bytes) → says ≡ Ok text → OnOk r (Appends old new text) →
+    IfErr r (λ f. StopsIn text old new f) → AgreesWithPrint r says old new
 told_agrees (Ok x) says text old new is out stops = (text, is, out)
 told_agrees (Err f) says text old new is out stops = stops_suits text old new f says stops
 
 module _ (Says : Result Bytes Reason → Type 0) (old new : Option Bytes) where
-  pub shown_ends : (r : Result (Unit {0}) Fault) (text : Bytes) → Says (Ok text) → IfErr r (λ f. StopsIn text old new f) → IfErr r (λ f. EndsAs Says old new f)
+  pub shown_ends : (r : Result (Unit {0}) Fault) (text : Bytes) → Says (Ok text) → IfErr r (λ f. StopsIn text old new f) → IfErr r (λ f. EndsShow Says old new f)
   shown_ends (Ok x) text says h = tt
   shown_ends (Err f) text says h = inr (text, says, h)
 
@@ -101,11 +102,11 @@ module _ (Says : Result Bytes Reason → Type 0) (old new : Option Bytes) where
   shown_text (Ok x) text says h = (text, says, h)
   shown_text (Err f) text says h = tt
 
-  pub refused_ends : (r : Reason) (f : Fault) → (r ≡ reason.NoMemory) ⊎ Says (Err r) → Declines (fault.Refused r) old new f → EndsAs Says old new f
-  refused_ends r f is h = inl (declined (IsFault Says) (λ (text : Bytes). ⊥) old new (fault.Refused r) f tt is (inl refl) h)
+  pub refused_ends : (r : Reason) (f : Fault) → (r ≡ reason.NoMemory) ⊎ Says (Err r) → Declines (fault.Refused r) old new f → EndsShow Says old new f
+  refused_ends r f is h = inl (declined (IsShowFault Says) (λ (text : Bytes). ⊥) old new (fault.Refused r) f tt is (inl refl) h)
 
 module _ (P Q : Result Bytes Reason → Type 0) (wider : (says : Result Bytes Reason) → P says → Q says) (old new : Option Bytes) where
-  wider_fault : (f : Fault) → IsFault P f → IsFault Q f
+  wider_fault : (f : Fault) → IsShowFault P f → IsShowFault Q f
   wider_fault (fault.Refused r) (inl is) = inl is
   wider_fault (fault.Refused r) (inr is) = inr (wider (Err r) is)
   wider_fault (fault.Line n) is = absurd is
@@ -114,11 +115,11 @@ module _ (P Q : Result Bytes Reason → Type 0) (wider : (says : Result Bytes Re
   wider_fault fault.Write is = absurd is
   wider_fault fault.NoMemory is = absurd is
 
-  ends_as : (f : Fault) → EndsAs P old new f → EndsAs Q old new f
-  ends_as f (inl h) = inl (fails_wider (IsFault P) (IsFault Q) (λ (text : Bytes). ⊥) (λ (text : Bytes). ⊥) wider_fault (λ t h. h) old new f h)
+  ends_as : (f : Fault) → EndsShow P old new f → EndsShow Q old new f
+  ends_as f (inl h) = inl (fails_wider (IsShowFault P) (IsShowFault Q) (λ (text : Bytes). ⊥) (λ (text : Bytes). ⊥) wider_fault (λ t h. h) old new f h)
   ends_as f (inr (text, is, stops)) = inr (text, wider (Ok text) is, stops)
 
-  pub ends_wider : (r : Result (Unit {0}) Fault) → IfErr r (λ f. EndsAs P old new f) → IfErr r (λ f. EndsAs Q old new f)
+  pub ends_wider : (r : Result (Unit {0}) Fault) → IfErr r (λ f. EndsShow P old new f) → IfErr r (λ f. EndsShow Q old new f)
   ends_wider (Ok x) h = tt
   ends_wider (Err f) h = ends_as f h
 
@@ -128,7 +129,8 @@ module _ (P Q : Result Bytes Reason → Type 0) (wider : (says : Result Bytes Re
 
 -- ---- refusals
 
-pub refused_log : (bytes : Bytes) (e : LogError) → (e ≡ log.NotALog → IsReading bytes NotALog) → ((i : ℕ) → e ≡ log.Damaged i → IsReading bytes (Damaged i)) → (log_reason e ≡ reason.NoMemory) ⊎ PrintsLog bytes (Err (log_reason e))
+pub refused_log : (bytes : Bytes) (e : LogError) → (e ≡ log.NotALog → IsReading bytes NotALog) → ((i : ℕ) → e ≡ log.Damaged i → IsReading bytes (Damaged i)) →
+    (log_reason e ≡ reason.NoMemory) ⊎ PrintsLog bytes (Err (log_reason e))
 refused_log bytes log.NotALog not damaged = inr (NotALog, not refl, refl)
 refused_log bytes (log.Damaged i) not damaged = inr (Damaged i, damaged i refl, refl)
 refused_log bytes log.NoMemory not damaged = inl refl
@@ -142,18 +144,22 @@ pub only_log : (A : Type 0) (bytes : Bytes) (e : LogError) → ((r : Reading) �
     (log_reason e ≡ reason.NoMemory) ⊎ (says ≡ Err (log_reason e))
 only_log A bytes e only says (r, reads, same) = rw same (told_log A e r (only r reads))
 
-pub refused_image : (bytes : Bytes) (e : ReadError) → (◌≡◌ {A = Result Image ReadError} (Err e) (Err read.NoMemory)) ⊎ Refuses e bytes → (read_reason e ≡ reason.NoMemory) ⊎ PrintsImage bytes (Err (read_reason e))
+pub refused_image : (bytes : Bytes) (e : ReadError) → (◌≡◌ {A = Result Image ReadError} (Err e) (Err read.NoMemory)) ⊎ Refuses e bytes →
+    (read_reason e ≡ reason.NoMemory) ⊎ PrintsImage bytes (Err (read_reason e))
 refused_image bytes e (inl none) = (let wanting : e ≡ read.NoMemory = cc in inl (ap read_reason wanting))
 refused_image bytes e (inr is) = inr (Err e, is, refl)
 
-told_image : (e : ReadError) (i : Result Image ReadError) → (Err e ≡ i) ⊎ (◌≡◌ {A = Result Image ReadError} (Err e) (Err read.NoMemory)) → (read_reason e ≡ reason.NoMemory) ⊎ (of_image i ≡ Err (read_reason e))
+told_image : (e : ReadError) (i : Result Image ReadError) → (Err e ≡ i) ⊎ (◌≡◌ {A = Result Image ReadError} (Err e) (Err read.NoMemory)) →
+    (read_reason e ≡ reason.NoMemory) ⊎ (of_image i ≡ Err (read_reason e))
 told_image e i (inl is) = inr (ap of_image (sym is))
 told_image e i (inr none) = (let wanting : e ≡ read.NoMemory = cc in inl (ap read_reason wanting))
 
-pub only_image : (bytes : Bytes) (e : ReadError) → ((i : Result Image ReadError) → IsAnswer bytes i → (Err e ≡ i) ⊎ (◌≡◌ {A = Result Image ReadError} (Err e) (Err read.NoMemory))) → (says : Result Bytes Reason) → PrintsImage bytes says →
+pub only_image : (bytes : Bytes) (e : ReadError) → ((i : Result Image ReadError) → IsAnswer bytes i → (Err e ≡ i) ⊎ (◌≡◌ {A = Result Image ReadError} (Err e) (Err read.NoMemory))) →
+    (says : Result Bytes Reason) → PrintsImage bytes says →
     (read_reason e ≡ reason.NoMemory) ⊎ (says ≡ Err (read_reason e))
 only_image bytes e only says (i, answer, same) = rw same (told_image e i (only i answer))
 
 -- an image that was read is all that the bytes print
-pub image_only : (bytes : Bytes) (i : Image) → ((j : Result Image ReadError) → IsAnswer bytes j → (Ok i ≡ j) ⊎ (Ok i ≡ Err read.NoMemory)) → (says : Result Bytes Reason) → PrintsImage bytes says → says ≡ Ok (image_text i)
+pub image_only : (bytes : Bytes) (i : Image) → ((j : Result Image ReadError) → IsAnswer bytes j → (Ok i ≡ j) ⊎ (Ok i ≡ Err read.NoMemory)) → (says : Result Bytes Reason) → PrintsImage bytes says →
+    says ≡ Ok (image_text i)
 image_only bytes i only says (j, answer, same) = elim (only j answer) [ inl is ↦ same ∙ ap of_image (sym is) | inr e ↦ absurd (cc) ]

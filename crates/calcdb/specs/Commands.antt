@@ -59,8 +59,8 @@ values_of (w ∷ ws) = do
   Some (v ∷ vs)
 
 -- `S N PROC ARG..`
-unfoldable pub call_of : Names → List Bytes → Option (NewCall (List Bytes))
-call_of names ws = do
+unfoldable pub new_call_of : Names → List Bytes → Option (NewCall (List Bytes))
+new_call_of names ws = do
   s ← session_at ws
   n ← number_at s.1
   p ← procedure_at names n.1
@@ -78,16 +78,16 @@ abbrev pub kind_named : Bytes → Option Kind
 kind_named w = if is_word w (codes "full") then Some Full else if is_word w (codes "partial") then Some Partial else None
 
 -- `full` or `partial` alone
-unfoldable pub kind_of : List Bytes → Option Kind
-kind_of ws = do
+unfoldable pub kind_in : List Bytes → Option Kind
+kind_in ws = do
   w ← first_word ws
   k ← kind_named w.0
   _ ← no_word w.1
   Some k
 
 -- a command without a word behind its name
-abbrev pub alone : Command (List Bytes) → List Bytes → Option (Command (List Bytes))
-alone c ws = no_word ws >>= λ x. Some c
+abbrev pub without_arguments : Command (List Bytes) → List Bytes → Option (Command (List Bytes))
+without_arguments c ws = no_word ws >>= λ x. Some c
 
 abbrev pub command_name : Bytes → Option CommandName
 command_name w =
@@ -116,16 +116,16 @@ unfoldable pub command_of : Names → List Bytes → Option (Command (List Bytes
 command_of names ws = do
   c ← command_at ws
   elim c.0 [
-    | named.Begin ↦ (call_of names c.1 >>= λ n. Some (command.Begin n))
+    | named.Begin ↦ (new_call_of names c.1 >>= λ n. Some (command.Begin n))
     | named.Step ↦ (session_of c.1 >>= λ s. Some (command.Step s))
     | named.Finish ↦ (session_of c.1 >>= λ s. Some (command.Finish s))
     | named.GiveUp ↦ (session_of c.1 >>= λ s. Some (command.GiveUp s))
-    | named.Call ↦ (call_of names c.1 >>= λ n. Some (command.Call n))
-    | named.Start ↦ (kind_of c.1 >>= λ k. Some (command.Start k))
-    | named.Advance ↦ alone command.Advance c.1
-    | named.Capture ↦ alone command.Capture c.1
-    | named.Scan ↦ alone command.Scan c.1
-    | named.TakeImage ↦ alone command.TakeImage c.1
-    | named.Reclaim ↦ alone command.Reclaim c.1
-    | named.Abandon ↦ alone command.Abandon c.1
+    | named.Call ↦ (new_call_of names c.1 >>= λ n. Some (command.Call n))
+    | named.Start ↦ (kind_in c.1 >>= λ k. Some (command.Start k))
+    | named.Advance ↦ without_arguments command.Advance c.1
+    | named.Capture ↦ without_arguments command.Capture c.1
+    | named.Scan ↦ without_arguments command.Scan c.1
+    | named.TakeImage ↦ without_arguments command.TakeImage c.1
+    | named.Reclaim ↦ without_arguments command.Reclaim c.1
+    | named.Abandon ↦ without_arguments command.Abandon c.1
   ]

@@ -7,7 +7,6 @@ pub mod Merging
 pub mod Runs
 pub mod Scripts
 pub mod Showing
-pub mod Streams
 pub mod Outcomes
 pub mod OwnFiles
 pub mod Output

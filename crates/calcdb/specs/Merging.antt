@@ -21,22 +21,22 @@ merge_of [] = Err reason.NotFull
 merge_of (full ∷ ps) = unless_refused (merged_image full ps) (refusal_of full ps)
 
 -- what was read, as one
-abbrev pub merged : Result (List Image) Reason → Result Image Reason
-merged (Ok is) = merge_of is
-merged (Err r) = Err r
+abbrev pub merge_of_read : Result (List Image) Reason → Result Image Reason
+merge_of_read (Ok is) = merge_of is
+merge_of_read (Err r) = Err r
 
 -- what files of images say as one: the first that spells none is refused, and else the merge
 abbrev pub IsMerge : List Bytes → Result Image Reason → Type 0
-IsMerge files says = (read : Result (List Image) Reason) × AreRead files read × (says ≡ merged read)
+IsMerge files says = (read : Result (List Image) Reason) × AreRead files read × (says ≡ merge_of_read read)
 
 -- want of memory, or why they aren't merged
-abbrev pub IsFault : List Bytes → Fault → Type 0
-IsFault files = IsRefusal (λ r. IsMerge files (Err r))
+abbrev pub IsMergeFault : List Bytes → Fault → Type 0
+IsMergeFault files = IsRefusal (λ r. IsMerge files (Err r))
 
 -- the header line of the merged image
-abbrev pub IsHeader : List Bytes → Bytes → Type 0
-IsHeader files text = (i : Image) × IsMerge files (Ok i) × (text ≡ header_line i)
+abbrev pub IsMergeHeader : List Bytes → Bytes → Type 0
+IsMergeHeader files text = (i : Image) × IsMerge files (Ok i) × (text ≡ header_line i)
 
 -- how a merge of files fails
-abbrev pub EndsAs : List Bytes → Option Bytes → Option Bytes → Fault → Type 0
-EndsAs files = FailsAs (IsFault files) (IsHeader files)
+abbrev pub EndsMerge : List Bytes → Option Bytes → Option Bytes → Fault → Type 0
+EndsMerge files = FailsAs (IsMergeFault files) (IsMergeHeader files)

@@ -9,7 +9,7 @@ use Rattle.steps.specs.Openings.{IsOpened}
 use Rattle.calcdb.specs.Reasons.{reason_text}
 use Rattle.calcdb.specs.Runs.{Carried, CarriesAll, HasRun, Images, Sent}
 use Rattle.calcdb.specs.Scripts.{Script}
-use Rattle.calcdb.specs.Streams.{IsBegun}
+use Rattle.procedure.specs.Streams.{IsBegun}
 use Rattle.calcdb.specs.declared.faults.Fault.{Fault}
 use Rattle.calcdb.specs.declared.faults.Fault.TheVariants as fault
 use Rattle.calcdb.specs.declared.faults.Reason.TheVariants.{NotAnOpening}
@@ -46,30 +46,30 @@ module _ (A : Type 0) where
     pub run : HasRun A script.catalog script.commands first core text
 
   -- the fault comes first: of the opening, and then of the text
-  abbrev pub IsFault : Result Script ScriptFault → Image → Fault → Type 0
-  IsFault says opening (fault.Line n) = (is_opening opening ≡ true) × (says ≡ Err (Line n))
-  IsFault says opening fault.Size = (is_opening opening ≡ true) × (says ≡ Err Size)
-  IsFault says opening (fault.Refused r) = (is_opening opening ≡ false) × (r ≡ NotAnOpening)
-  IsFault says opening fault.Read = ⊥
-  IsFault says opening fault.Write = ⊥
-  IsFault says opening fault.NoMemory = ⊥
+  abbrev pub IsRunFault : Result Script ScriptFault → Image → Fault → Type 0
+  IsRunFault says opening (fault.Line n) = (is_opening opening ≡ true) × (says ≡ Err (Line n))
+  IsRunFault says opening fault.Size = (is_opening opening ≡ true) × (says ≡ Err Size)
+  IsRunFault says opening (fault.Refused r) = (is_opening opening ≡ false) × (r ≡ NotAnOpening)
+  IsRunFault says opening fault.Read = ⊥
+  IsRunFault says opening fault.Write = ⊥
+  IsRunFault says opening fault.NoMemory = ⊥
 
   -- a text of which a run that was stopped may have written a beginning
   abbrev pub IsText : Result Script ScriptFault → Image → Bytes → Type 0
-  IsText says opening text = RunsFor says opening text ⊎ ((f : Fault) × IsFault says opening f × (text ≡ fault_text f))
+  IsText says opening text = RunsFor says opening text ⊎ ((f : Fault) × IsRunFault says opening f × (text ≡ fault_text f))
 
   -- nothing went out, or a beginning of such a text
   abbrev pub IsStopped : Result Script ScriptFault → Image → Option Bytes → Option Bytes → Type 0
   IsStopped says opening old new = Appends old new [] ⊎ ((text : Bytes) × IsText says opening text × IsBegun old new text)
 
   -- what went out by the time of a fault
-  abbrev pub EndsAs : Result Script ScriptFault → Image → Option Bytes → Option Bytes → Fault → Type 0
-  EndsAs says opening old new (fault.Line n) = IsFault says opening (fault.Line n) × Appends old new (fault_text (fault.Line n))
-  EndsAs says opening old new fault.Size = IsFault says opening fault.Size × Appends old new (fault_text fault.Size)
-  EndsAs says opening old new (fault.Refused r) = IsFault says opening (fault.Refused r) × Appends old new (fault_text (fault.Refused r))
-  EndsAs says opening old new fault.Read = Appends old new []
-  EndsAs says opening old new fault.Write = IsStopped says opening old new
-  EndsAs says opening old new fault.NoMemory = IsStopped says opening old new
+  abbrev pub EndsRun : Result Script ScriptFault → Image → Option Bytes → Option Bytes → Fault → Type 0
+  EndsRun says opening old new (fault.Line n) = IsRunFault says opening (fault.Line n) × Appends old new (fault_text (fault.Line n))
+  EndsRun says opening old new fault.Size = IsRunFault says opening fault.Size × Appends old new (fault_text fault.Size)
+  EndsRun says opening old new (fault.Refused r) = IsRunFault says opening (fault.Refused r) × Appends old new (fault_text (fault.Refused r))
+  EndsRun says opening old new fault.Read = Appends old new []
+  EndsRun says opening old new fault.Write = IsStopped says opening old new
+  EndsRun says opening old new fault.NoMemory = IsStopped says opening old new
 
   -- how a script's run stops: before the core is opened, or after some of the commands
   abbrev pub StopsAs : Script → Image → Option Bytes → Option Bytes → Fault → Type 0

@@ -20,7 +20,7 @@ use Rattle.replay.specs.declared.errors.RecoverError.{RecoverError}
 use Rattle.replay.specs.declared.errors.RecoverError.TheVariants as refused
 use Rattle.steps.specs.CoreViews.{CoreView}
 use Rattle.calcdb.specs.ImageFiles.{Spell}
-use Rattle.calcdb.specs.Recovering.{answered, as_fault, recovered_image}
+use Rattle.calcdb.specs.Recovering.{recovery_in_words, as_fault, recovered_image}
 use Rattle.calcdb.specs.Refusing.{no_memory}
 use Rattle.calcdb.specs.Scripts.{catalog_of}
 use Rattle.calcdb.specs.declared.faults.Fault.{Fault}
@@ -33,23 +33,23 @@ abbrev pub history_recovery : List Procedure → Image → (place : ℕ) → Lis
 history_recovery c opening place m e = record { state = after c (table_of opening) m; calls = calls_in (drop place m); torn = is_torn e }
 
 -- its image is answered, unless a write failed or memory was wanting
-abbrev pub Gives : Recovery → Result Image Fault → Type 0
-Gives r (Ok i) = i ≡ recovered_image r
-Gives r (Err f) = (f ≡ fault.Write) ⊎ (f ≡ no_memory)
+abbrev pub GivesRecovery : Recovery → Result Image Fault → Type 0
+GivesRecovery r (Ok i) = i ≡ recovered_image r
+GivesRecovery r (Err f) = (f ≡ fault.Write) ⊎ (f ≡ no_memory)
 
 -- from the opening, of each front of the log: the table after the records that stand whole in it
 abbrev pub FromOpeningFile : (script text : Bytes) → List Bytes → Result Image Fault → Type 0
 FromOpeningFile script text files x =
     (c : List Procedure) (opening : Image) (v : Version) (h : LogHeader) (l : List Record) →
     catalog_of script ≡ Ok c → IsHistory c opening v h l → IsFrontOf v h l text → Spell (opening ∷ []) files →
-    (m left : List Record) × (l ≡ m ++ left) × (e : Ending) × IsReading text (Log v h m e) × Gives (history_recovery c opening 0 m e) x
+    (m left : List Record) × (l ≡ m ++ left) × (e : Ending) × IsReading text (Log v h m e) × GivesRecovery (history_recovery c opening 0 m e) x
 
 -- from images of its checkpoints, of each front that holds the last one's cut: the same table
 abbrev pub FromImageFiles : (script text : Bytes) → List Bytes → Result Image Fault → Type 0
 FromImageFiles script text files x =
     (c : List Procedure) (opening : Image) (v : Version) (h : LogHeader) (m left : List Record) (e : Ending) (full : Image) (ps : List Image) →
     catalog_of script ≡ Ok c → IsHistory c opening v h (m ++ left) → IsReading text (Log v h m e) → Spell (full ∷ ps) files →
-    IsChainOf c (table_of opening) (m ++ left) full ps → HasCut m (last_of full ps).number → Gives (history_recovery c opening (last_of full ps).place m e) x
+    IsChainOf c (table_of opening) (m ++ left) full ps → HasCut m (last_of full ps).number → GivesRecovery (history_recovery c opening (last_of full ps).place m e) x
 
 -- the log of a core is such a history, with a header that names its procedures and its opening
 abbrev pub HasHistory : CoreView → Type 0
@@ -68,10 +68,10 @@ OrNoMemory c is text a = IsRecovery c is text a ⊎ (a ≡ Err refused.NoMemory)
 -- from files that spell images
 abbrev pub OfSpelled : List Procedure → Bytes → List Bytes → Result Recovery Reason → Type 0
 OfSpelled c text files x =
-    (is : List Image) → Spell is files → (a : Result Recovery RecoverError) × OrNoMemory c is text a × ((x ≡ answered a) ⊎ (x ≡ Err reason.NoMemory))
+    (is : List Image) → Spell is files → (a : Result Recovery RecoverError) × OrNoMemory c is text a × ((x ≡ recovery_in_words a) ⊎ (x ≡ Err reason.NoMemory))
 
 -- and a script
 abbrev pub OfScript : (script text : Bytes) → List Bytes → Result Recovery Fault → Type 0
 OfScript script text files x =
     (c : List Procedure) (is : List Image) → catalog_of script ≡ Ok c → Spell is files →
-    (a : Result Recovery RecoverError) × OrNoMemory c is text a × ((x ≡ as_fault (answered a)) ⊎ (x ≡ Err no_memory))
+    (a : Result Recovery RecoverError) × OrNoMemory c is text a × ((x ≡ as_fault (recovery_in_words a)) ⊎ (x ≡ Err no_memory))

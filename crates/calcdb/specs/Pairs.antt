@@ -29,8 +29,8 @@ key_of word = value_of word >>= as_key
 abbrev pub as_held : Bytes → Option Bytes
 as_held bytes = if nat_le (length bytes) VALUE_BYTES then Some bytes else None
 
-abbrev pub held_of : Bytes → Option Bytes
-held_of word = value_of word >>= as_held
+abbrev pub held_value_of : Bytes → Option Bytes
+held_value_of word = value_of word >>= as_held
 
 -- `KEY VALUE`
 unfoldable pub pair_of : List Bytes → Option (Bytes × Bytes)
@@ -38,7 +38,7 @@ pair_of ws = do
   k ← first_word ws
   key ← key_of k.0
   v ← first_word k.1
-  held ← held_of v.0
+  held ← held_value_of v.0
   _ ← no_word v.1
   Some (key, held)
 
@@ -47,21 +47,21 @@ abbrev pub with_pair : Table → Bytes × Bytes → Option Table
 with_pair t p = if nat_lt (map.len t) ENTRIES && is_none (value_at t p.0) then Some (map.insert t p.0 p.1) else None
 
 -- the table after a line's words
-abbrev pub after_words : Table → List Bytes → Option Table
-after_words t ws = if is_skipped ws then Some t else (pair_of ws >>= with_pair t)
+abbrev pub table_after_words : Table → List Bytes → Option Table
+table_after_words t ws = if is_skipped ws then Some t else (pair_of ws >>= with_pair t)
 
 -- the table after one line more
-abbrev pub after_line : Table → Bytes → Option Table
-after_line t line = if all_pass is_allowed line then after_words t (words line) else None
+abbrev pub table_after_line : Table → Bytes → Option Table
+table_after_line t line = if all_pass is_allowed line then table_after_words t (words line) else None
 
 -- the table after these lines, which are numbered from n on, or the first of them that is faulty
-unfoldable pub table_after : Table → ℕ → List Bytes → Result Table ScriptFault
-table_after t n [] = Ok t
-table_after t n (l ∷ ls) = elim (after_line t l) [ None ↦ Err (Line n) | Some u ↦ table_after u (n + 1) ls ]
+unfoldable pub table_after_lines : Table → ℕ → List Bytes → Result Table ScriptFault
+table_after_lines t n [] = Ok t
+table_after_lines t n (l ∷ ls) = elim (table_after_line t l) [ None ↦ Err (Line n) | Some u ↦ table_after_lines u (n + 1) ls ]
 
 -- the table of a text of at most 4,194,304 bytes, or its fault
-unfoldable pub table_of : Bytes → Result Table ScriptFault
-table_of text = if nat_le (length text) SCRIPT_BYTES then table_after map.empty 1 (lines text) else Err Size
+unfoldable pub table_of_pairs : Bytes → Result Table ScriptFault
+table_of_pairs text = if nat_le (length text) SCRIPT_BYTES then table_after_lines map.empty 1 (lines text) else Err Size
 
 -- the opening image of a table: full, with number, base and place 0
 abbrev pub loaded : Result Table ScriptFault → Result Image ScriptFault
@@ -69,22 +69,22 @@ loaded (Ok t) = Ok (full_image 0 0 t)
 loaded (Err e) = Err e
 
 -- the opening image of the pairs of a text, or its fault
-abbrev pub image_of : Bytes → Result Image ScriptFault
-image_of text = loaded (table_of text)
+abbrev pub image_of_pairs : Bytes → Result Image ScriptFault
+image_of_pairs text = loaded (table_of_pairs text)
 
 -- the fault of a text; a read may fail and memory may be wanting whatever it says
-abbrev pub IsFault : Result Image ScriptFault → Fault → Type 0
-IsFault says (fault.Line n) = says ≡ Err (Line n)
-IsFault says fault.Size = says ≡ Err Size
-IsFault says (fault.Refused r) = r ≡ reason.NoMemory
-IsFault says fault.Read = Unit {0}
-IsFault says fault.Write = ⊥
-IsFault says fault.NoMemory = ⊥
+abbrev pub IsLoadFault : Result Image ScriptFault → Fault → Type 0
+IsLoadFault says (fault.Line n) = says ≡ Err (Line n)
+IsLoadFault says fault.Size = says ≡ Err Size
+IsLoadFault says (fault.Refused r) = r ≡ reason.NoMemory
+IsLoadFault says fault.Read = Unit {0}
+IsLoadFault says fault.Write = ⊥
+IsLoadFault says fault.NoMemory = ⊥
 
 -- the header line of the image that is loaded
-abbrev pub IsHeader : Result Image ScriptFault → Bytes → Type 0
-IsHeader says text = (i : Image) × (says ≡ Ok i) × (text ≡ header_line i)
+abbrev pub IsLoadHeader : Result Image ScriptFault → Bytes → Type 0
+IsLoadHeader says text = (i : Image) × (says ≡ Ok i) × (text ≡ header_line i)
 
 -- how a load fails
-abbrev pub EndsAs : Result Image ScriptFault → Option Bytes → Option Bytes → Fault → Type 0
-EndsAs says = FailsAs (IsFault says) (IsHeader says)
+abbrev pub EndsLoad : Result Image ScriptFault → Option Bytes → Option Bytes → Fault → Type 0
+EndsLoad says = FailsAs (IsLoadFault says) (IsLoadHeader says)

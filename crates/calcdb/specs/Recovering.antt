@@ -16,14 +16,14 @@ use Rattle.calcdb.specs.declared.faults.Reason.{Reason}
 use Rattle.calcdb.specs.declared.scripts.ScriptFault.{ScriptFault}
 
 -- what recovering answers, in the words of the program
-abbrev pub answered : Result Recovery RecoverError → Result Recovery Reason
-answered (Ok r) = Ok r
-answered (Err e) = Err (recover_reason e)
+abbrev pub recovery_in_words : Result Recovery RecoverError → Result Recovery Reason
+recovery_in_words (Ok r) = Ok r
+recovery_in_words (Err e) = Err (recover_reason e)
 
 -- by procedures, from images that were read and a log
 abbrev pub OfImages : List Procedure → Bytes → Result (List Image) Reason → Result Recovery Reason → Type 0
 OfImages c log (Err r) says = says ≡ Err r
-OfImages c log (Ok is) says = (a : Result Recovery RecoverError) × IsRecovery c is log a × (says ≡ answered a)
+OfImages c log (Ok is) says = (a : Result Recovery RecoverError) × IsRecovery c is log a × (says ≡ recovery_in_words a)
 
 -- by procedures, from a log and files: the first file that spells no image is refused, and else what recovering answers
 abbrev pub OfFiles : List Procedure → Bytes → List Bytes → Result Recovery Reason → Type 0
@@ -46,27 +46,27 @@ IsRecovered script log files says = OfCatalog (catalog_of script) log files says
 abbrev pub recovered_image : Recovery → Image
 recovered_image r = full_image 0 0 r.state
 
-abbrev pub ending_text : Bool → Bytes
-ending_text true = codes " torn"
-ending_text false = codes " clean"
+abbrev pub recovered_ending_text : Bool → Bytes
+recovered_ending_text true = codes " torn"
+recovered_ending_text false = codes " clean"
 
 -- how many calls were run again, how the log ends, and how many keys there are
 abbrev pub recovered_line : Recovery → Bytes
-recovered_line r = codes "recovered calls " ++ decimal r.calls ++ ending_text r.torn ++ codes " count " ++ decimal (map.len r.state) ++ codes "\n"
+recovered_line r = codes "recovered calls " ++ decimal r.calls ++ recovered_ending_text r.torn ++ codes " count " ++ decimal (map.len r.state) ++ codes "\n"
 
 -- the first fault, or want of memory
-abbrev pub IsFault : (script log : Bytes) → List Bytes → Fault → Type 0
-IsFault script log files f = IsRecovered script log files (Err f) ⊎ (f ≡ no_memory)
+abbrev pub IsRecoveryFault : (script log : Bytes) → List Bytes → Fault → Type 0
+IsRecoveryFault script log files f = IsRecovered script log files (Err f) ⊎ (f ≡ no_memory)
 
 -- the line of what was recovered
-abbrev pub IsLine : (script log : Bytes) → List Bytes → Bytes → Type 0
-IsLine script log files text = (r : Recovery) × IsRecovered script log files (Ok r) × (text ≡ recovered_line r)
+abbrev pub IsRecoveryLine : (script log : Bytes) → List Bytes → Bytes → Type 0
+IsRecoveryLine script log files text = (r : Recovery) × IsRecovered script log files (Ok r) × (text ≡ recovered_line r)
 
 -- how a recovery fails
-abbrev pub EndsAs : (script log : Bytes) → List Bytes → Option Bytes → Option Bytes → Fault → Type 0
-EndsAs script log files = FailsAs (IsFault script log files) (IsLine script log files)
+abbrev pub EndsRecovery : (script log : Bytes) → List Bytes → Option Bytes → Option Bytes → Fault → Type 0
+EndsRecovery script log files = FailsAs (IsRecoveryFault script log files) (IsRecoveryLine script log files)
 
 -- what is answered is what is said, but where a write failed or memory was wanting
-abbrev pub Agrees : Result Image Fault → Result Recovery Fault → Type 0
-Agrees (Ok i) says = (r : Recovery) × (says ≡ Ok r) × (i ≡ recovered_image r)
-Agrees (Err f) says = (f ≡ fault.Write) ⊎ (f ≡ no_memory) ⊎ (says ≡ Err f)
+abbrev pub AgreesWithRecovery : Result Image Fault → Result Recovery Fault → Type 0
+AgreesWithRecovery (Ok i) says = (r : Recovery) × (says ≡ Ok r) × (i ≡ recovered_image r)
+AgreesWithRecovery (Err f) says = (f ≡ fault.Write) ⊎ (f ≡ no_memory) ⊎ (says ≡ Err f)

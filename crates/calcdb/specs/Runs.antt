@@ -21,7 +21,7 @@ use Rattle.steps.specs.declared.finish.Answer.{Answer}
 use Rattle.steps.specs.declared.step.Stepped.{Stepped}
 use Rattle.steps.specs.declared.step.Stepped.TheVariants.{Ran, Ready}
 use Rattle.std.specs.Io.KnownBytes.{Appends}
-use Rattle.calcdb.specs.Streams.{IsBegun}
+use Rattle.procedure.specs.Streams.{IsBegun}
 use Rattle.calcdb.specs.declared.faults.Fault.{Fault}
 use Rattle.calcdb.specs.declared.faults.Fault.TheVariants as fault
 use Rattle.calcdb.specs.Output.{answer_text, image_text, key_text, numbered_text, refused_text}
@@ -116,7 +116,8 @@ module _ {A : Type 0} where
   abbrev pub Calls : List Procedure → NewCall (List Bytes) → List (Event A) → List (Reply A) → Bytes → Type 0
   Calls catalog c es rs text =
       ((e : BeginError) × (b : Event A) × Begins c b × (es ≡ b ∷ []) × (rs ≡ reply.Begin (Err e) ∷ []) × (text ≡ refused_text (begin_error_text e)))
-      ⊎ ((b : Event A) × (fs : List (Event A)) × (qs : List (Reply A)) × Begins c b × (es ≡ b ∷ fs) × (rs ≡ reply.Begin (Ok tt) ∷ qs) × GoesOn (count_of (slice_get catalog c.procedure)) c.session fs qs text)
+      ⊎ ((b : Event A) × (fs : List (Event A)) × (qs : List (Reply A)) × Begins c b × (es ≡ b ∷ fs) × (rs ≡ reply.Begin (Ok tt) ∷ qs) × GoesOn (count_of (slice_get catalog c.procedure)) c.session fs
+      qs text)
 
   -- one event, and what is printed of its reply
   abbrev pub Says : Event A → List (Event A) → List (Reply A) → Bytes → Type 0
@@ -125,7 +126,8 @@ module _ {A : Type 0} where
   -- captures, each of which visits a place but for the last one
   abbrev pub Scans : List (Event A) → List (Reply A) → Bytes → Type 0
   Scans es rs text =
-      (n : ℕ) × (last : Result Captured CaptureError) × (es ≡ replicate n event.Capture ++ event.Capture ∷ []) × (rs ≡ replicate n (reply.Capture (Ok Slot)) ++ reply.Capture last ∷ []) × EndsScan n last text
+      (n : ℕ) × (last : Result Captured CaptureError) × (es ≡ replicate n event.Capture ++ event.Capture ∷ []) × (rs ≡ replicate n (reply.Capture (Ok Slot)) ++ reply.Capture last ∷ []) × EndsScan n
+      last text
 
   -- the events that a command is, with their replies, and what is printed of them
   abbrev pub Carries : List Procedure → Command (List Bytes) → List (Event A) → List (Reply A) → Bytes → Type 0
@@ -146,7 +148,8 @@ module _ {A : Type 0} where
   abbrev pub CarriesAll : List Procedure → List (Command (List Bytes)) → List (Event A) → List (Reply A) → Bytes → Type 0
   CarriesAll catalog [] es rs text = (es ≡ []) × (rs ≡ []) × (text ≡ [])
   CarriesAll catalog (c ∷ cs) es rs text =
-      (fs : List (Event A)) × (gs : List (Event A)) × (qs : List (Reply A)) × (ps : List (Reply A)) × (first : Bytes) × (others : Bytes) × (es ≡ fs ++ gs) × (rs ≡ qs ++ ps) × (text ≡ first ++ others) × Carries catalog c fs qs first × CarriesAll catalog cs gs ps others
+      (fs : List (Event A)) × (gs : List (Event A)) × (qs : List (Reply A)) × (ps : List (Reply A)) × (first : Bytes) × (others : Bytes) × (es ≡ fs ++ gs) × (rs ≡ qs ++ ps) ×
+      (text ≡ first ++ others) × Carries catalog c fs qs first × CarriesAll catalog cs gs ps others
 
   -- events that a core carried out, what is printed of them, and the images that they took, in order
   pub record Carried (P : List (Event A) → List (Reply A) → Bytes → Type 0) (old new : CoreView) (text : Bytes) (images : Images) : Type 0 where

@@ -92,8 +92,8 @@ heading_of names ws = do
   Some (name.0, arity)
 
 -- what stands behind `proc`, in this line
-unfoldable pub opened : Said → ℕ → List Bytes → Option Said
-opened s line ws = do
+unfoldable pub said_after_heading : Said → ℕ → List Bytes → Option Said
+said_after_heading s line ws = do
   h ← heading_of s.names ws
   if may_open s then Some (with_block s h.0 (record { line = line; arity = h.1; code = [] })) else None
 
@@ -104,14 +104,14 @@ with_command s ws = command_of s.names ws >>= λ c. Some (record s { commands = 
 unfoldable pub out_of_block : Said → ℕ → List Bytes → Option Said
 out_of_block s line ws = do
   w ← first_word ws
-  if is_word w.0 (codes "proc") then opened s line w.1 else with_command s ws
+  if is_word w.0 (codes "proc") then said_after_heading s line w.1 else with_command s ws
 
-abbrev pub after_words : Said → ℕ → List Bytes → Option Said
-after_words s line ws = if is_skipped ws then Some s else (elim s.block [ None ↦ out_of_block s line ws | Some b ↦ in_block s b ws ])
+abbrev pub said_after_words : Said → ℕ → List Bytes → Option Said
+said_after_words s line ws = if is_skipped ws then Some s else (elim s.block [ None ↦ out_of_block s line ws | Some b ↦ in_block s b ws ])
 
 -- what is said after one line more
-abbrev pub after_line : Said → ℕ → Bytes → Option Said
-after_line s line text = if all_pass is_allowed text then after_words s line (words text) else None
+abbrev pub said_after_line : Said → ℕ → Bytes → Option Said
+said_after_line s line text = if all_pass is_allowed text then said_after_words s line (words text) else None
 
 -- does one of the lines end a block?
 abbrev pub block_ends : List Bytes → Bool
@@ -128,8 +128,8 @@ abbrev pub open_line : Said → Option ℕ
 open_line s = option_map (λ b. b.line) s.block
 
 -- at the end of a script no block is open
-abbrev pub whole : Said → Result Script ScriptFault
-whole s = elim s.block [ None ↦ Ok (record { catalog = s.procedures; commands = s.commands }) | Some b ↦ Err (Line b.line) ]
+abbrev pub script_said : Said → Result Script ScriptFault
+script_said s = elim s.block [ None ↦ Ok (record { catalog = s.procedures; commands = s.commands }) | Some b ↦ Err (Line b.line) ]
 
 abbrev pub begins_block : List Bytes → Bool
 begins_block [] = false
@@ -146,15 +146,15 @@ ends_before Procedures s ws = is_command_line s ws
 
 -- the script, where these lines follow what was said; they are numbered from n on, and this part of them is read
 unfoldable pub said : Part → Said → ℕ → List Bytes → Result Script ScriptFault
-said part s n [] = whole s
+said part s n [] = script_said s
 said part s n (l ∷ ls) =
-    if ends_before part s (words l) then whole s
-    else elim (after_line s n l) [ None ↦ Err (Line (blamed (open_line s) n ls)) | Some t ↦ said part t (n + 1) ls ]
+    if ends_before part s (words l) then script_said s
+    else elim (said_after_line s n l) [ None ↦ Err (Line (blamed (open_line s) n ls)) | Some t ↦ said part t (n + 1) ls ]
 
 -- what is answered is what is said, want of memory apart
-abbrev pub Tells : {X Y : Type 0} → (X → Y) → Result X ScriptFault → Result Y ScriptFault → Type 0
-Tells view (Ok x) says = says ≡ Ok (view x)
-Tells view (Err e) says = (e ≡ NoMemory) ⊎ (says ≡ Err e)
+abbrev pub TellsScript : {X Y : Type 0} → (X → Y) → Result X ScriptFault → Result Y ScriptFault → Type 0
+TellsScript view (Ok x) says = says ≡ Ok (view x)
+TellsScript view (Err e) says = (e ≡ NoMemory) ⊎ (says ≡ Err e)
 
 -- what a part of a text of at most 4,194,304 bytes says, or its fault
 unfoldable pub part_of : Part → Bytes → Result Script ScriptFault

@@ -16,7 +16,7 @@ use Rattle.image.specs.declared.errors.ReadError.{ReadError}
 use Rattle.calcdb.specs.Output.{image_text, outcome_text, replies_text, value_text}
 use Rattle.calcdb.specs.Reasons.{read_reason}
 use Rattle.calcdb.specs.Refusing.{FailsAs, IsRefusal, IsSaid, Suits, no_memory}
-use Rattle.calcdb.specs.Streams.{IsBegun}
+use Rattle.procedure.specs.Streams.{IsBegun}
 use Rattle.calcdb.specs.declared.faults.Fault.{Fault}
 use Rattle.calcdb.specs.declared.faults.Fault.TheVariants as fault
 use Rattle.calcdb.specs.declared.faults.Reason.{Reason}
@@ -47,13 +47,13 @@ unfoldable pub records_text : ℕ → List Record → Bytes
 records_text place [] = []
 records_text place (r ∷ rs) = record_text place r ++ records_text (place + 1) rs
 
-abbrev pub ending_text : Ending → Bytes
-ending_text Clean = codes " clean\n"
-ending_text Torn = codes " torn\n"
+abbrev pub log_ending_text : Ending → Bytes
+log_ending_text Clean = codes " clean\n"
+log_ending_text Torn = codes " torn\n"
 
 -- how many records there are, and how the bytes end
 abbrev pub count_text : ℕ → Ending → Bytes
-count_text count e = codes "log records " ++ decimal count ++ ending_text e
+count_text count e = codes "log records " ++ decimal count ++ log_ending_text e
 
 -- a log: that line, and one for each record
 abbrev pub log_text : List Record → Ending → Bytes
@@ -62,8 +62,8 @@ log_text rs e = count_text (length rs) e ++ records_text 0 rs
 -- WHAT BYTES SAY
 
 -- the letters of a log stand at the front, of either version
-abbrev pub BeginsLog : Bytes → Type 0
-BeginsLog bytes = (v : Version) × (take 8 bytes ≡ magic v)
+abbrev pub HasLogMagic : Bytes → Type 0
+HasLogMagic bytes = (v : Version) × (take 8 bytes ≡ magic v)
 
 -- a reading of bytes as a log, in print
 abbrev pub of_reading : log.Reading → Result Bytes Reason
@@ -86,7 +86,7 @@ PrintsImage bytes says = (i : Result Image ReadError) × IsAnswer bytes i × (sa
 
 -- what bytes print, or why they are refused: as a log where they begin as one, and else as an image
 abbrev pub Prints : Bytes → Result Bytes Reason → Type 0
-Prints bytes says = (BeginsLog bytes × PrintsLog bytes says) ⊎ ((BeginsLog bytes → ⊥) × PrintsImage bytes says)
+Prints bytes says = (HasLogMagic bytes × PrintsLog bytes says) ⊎ ((HasLogMagic bytes → ⊥) × PrintsImage bytes says)
 
 -- the text that bytes print
 abbrev pub IsShown : Bytes → Bytes → Type 0
@@ -95,9 +95,9 @@ IsShown bytes text = Prints bytes (Ok text)
 -- HOW SHOWING ENDS
 
 -- what is answered, and what went out, is what the bytes print, but where a write failed or memory was wanting
-abbrev pub Agrees : Result (Unit {0}) Fault → Result Bytes Reason → Option Bytes → Option Bytes → Type 0
-Agrees (Ok x) says old new = (text : Bytes) × (says ≡ Ok text) × Appends old new text
-Agrees (Err f) says old new = Suits f says
+abbrev pub AgreesWithPrint : Result (Unit {0}) Fault → Result Bytes Reason → Option Bytes → Option Bytes → Type 0
+AgreesWithPrint (Ok x) says old new = (text : Bytes) × (says ≡ Ok text) × Appends old new text
+AgreesWithPrint (Err f) says old new = Suits f says
 
 -- a text was stopped: a write failed after a beginning of it; or memory was wanting, and behind a beginning of it that was said
 abbrev pub StopsIn : Bytes → Option Bytes → Option Bytes → Fault → Type 0
@@ -107,11 +107,11 @@ StopsIn text old new f =
 
 module _ (Says : Result Bytes Reason → Type 0) where
   -- want of memory, or why the bytes are refused
-  abbrev pub IsFault : Fault → Type 0
-  IsFault = IsRefusal (λ r. Says (Err r))
+  abbrev pub IsShowFault : Fault → Type 0
+  IsShowFault = IsRefusal (λ r. Says (Err r))
 
   -- one line of a fault was written, or a text was stopped that the bytes print
-  abbrev pub EndsAs : Option Bytes → Option Bytes → Fault → Type 0
-  EndsAs old new f =
-      FailsAs IsFault (λ text. ⊥) old new f
+  abbrev pub EndsShow : Option Bytes → Option Bytes → Fault → Type 0
+  EndsShow old new f =
+      FailsAs IsShowFault (λ text. ⊥) old new f
       ⊎ ((text : Bytes) × Says (Ok text) × StopsIn text old new f)

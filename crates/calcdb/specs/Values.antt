@@ -28,8 +28,8 @@ unfoldable pub decimal_of : ℕ → Bytes → Option ℕ
 decimal_of most word = if length word == 0 then None else number_of_digits most word
 
 -- `#`, and 1 to 20 digits of a number of 8 bytes
-unfoldable pub number_of : Bytes → Option Bytes
-number_of digits = do
+unfoldable pub number_value_of : Bytes → Option Bytes
+number_value_of digits = do
   n ← if nat_le (length digits) 20 then decimal_of (2 ^ 64 - 1) digits else None
   Some (big_bytes 8 n)
 
@@ -40,4 +40,4 @@ hex_of digits = result_ok (decode_of digits)
 -- a value: `#` and a number, `'` and its bytes, or `x` and hexadecimal digits
 unfoldable pub value_of : Bytes → Option Bytes
 value_of [] = None
-value_of (b ∷ bs) = if b == 35 then number_of bs else if b == 39 then Some bs else if b == 120 then hex_of bs else None
+value_of (b ∷ bs) = if b == 35 then number_value_of bs else if b == 39 then Some bs else if b == 120 then hex_of bs else None

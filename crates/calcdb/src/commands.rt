@@ -1,13 +1,13 @@
 //! Lines of commands.
 
 ghost use Rattle.std.specs.Prelude.{◌≡◌, ◌-◌, ◌^◌, List, map};
-ghost use Rattle.calcdb.specs.Reads.{Gives};
+ghost use Rattle.calcdb.specs.Reads.{ReadsAs};
 ghost use Rattle.calcdb.specs.Commands as spec;
 ghost use Rattle.calcdb.specs.Lines.{all_pass, words};
 
+use crate::faults::unread::Unread;
 use crate::instructions::is_word;
 use crate::lines::{end_of, first_word, word_at};
-use crate::unread::Unread;
 use crate::values::{decimal_of, value_of};
 use image::Kind;
 use procedure::{Key, KeyMap};
@@ -138,14 +138,14 @@ pub(crate) fn number_of_name<A: Allocator>(names: &Names<A>, word: &[u8]) -> Opt
 }
 
 fn session_at(line: &[u8]) -> Result<(u16, &[u8]), Unread>
-    ensures { Gives (λ p. (p.0, words p.1.now)) result (spec.session_at (words line.now)) }
+    ensures { ReadsAs (λ p. (p.0, words p.1.now)) result (spec.session_at (words line.now)) }
 {
     let (word, rest) = word_at(line)?;
     Ok((decimal_of(65_535, word)? as u16, rest))
 }
 
 fn number_at(line: &[u8]) -> Result<(u64, &[u8]), Unread>
-    ensures { Gives (λ p. (p.0, words p.1.now)) result (spec.number_at (words line.now)) }
+    ensures { ReadsAs (λ p. (p.0, words p.1.now)) result (spec.number_at (words line.now)) }
 {
     let (word, rest) = word_at(line)?;
     Ok((decimal_of(u64::MAX, word)?, rest))
@@ -155,7 +155,7 @@ fn procedure_at<'a, A: Allocator>(
     names: &Names<A>,
     line: &'a [u8],
 ) -> Result<(u16, &'a [u8]), Unread>
-    ensures { Gives (λ p. (p.0, words p.1.now)) result (spec.procedure_at names.now (words line.now)) }
+    ensures { ReadsAs (λ p. (p.0, words p.1.now)) result (spec.procedure_at names.now (words line.now)) }
 {
     let (word, rest) = word_at(line)?;
     let procedure = number_of_name(names, word).ok_or(Unread::Faulty)?;
@@ -164,7 +164,7 @@ fn procedure_at<'a, A: Allocator>(
 
 /// The values that the words of a line are.
 fn arguments_of<A: Allocator + Clone>(alloc: A, line: &[u8]) -> Result<Arguments<A>, Unread>
-    ensures { Gives (λ a. a) result (spec.values_of (words line.now)) }
+    ensures { ReadsAs (λ a. a) result (spec.values_of (words line.now)) }
 {
     let mut values = Vec::new(alloc.clone()?);
     let mut rest = line;
@@ -176,13 +176,13 @@ fn arguments_of<A: Allocator + Clone>(alloc: A, line: &[u8]) -> Result<Arguments
 }
 
 /// A session, a number, a procedure's name, and its arguments.
-#[tactic(auto, unfolding(crate::specs::Commands::call_of))]
+#[tactic(auto, unfolding(crate::specs::Commands::new_call_of))]
 fn call_of<A: Allocator + Clone>(
     alloc: A,
     names: &Names<A>,
     line: &[u8],
 ) -> Result<NewCall<Arguments<A>>, Unread>
-    ensures { Gives (λ c. c) result (spec.call_of names.now (words line.now)) }
+    ensures { ReadsAs (λ c. c) result (spec.new_call_of names.now (words line.now)) }
 {
     let (session, rest) = session_at(line)?;
     let (number, rest) = number_at(rest)?;
@@ -199,7 +199,7 @@ fn call_of<A: Allocator + Clone>(
 /// A session alone.
 #[tactic(auto, unfolding(crate::specs::Commands::session_of))]
 fn session_of(line: &[u8]) -> Result<u16, Unread>
-    ensures { Gives (λ s. s) result (spec.session_of (words line.now)) }
+    ensures { ReadsAs (λ s. s) result (spec.session_of (words line.now)) }
 {
     let (session, rest) = session_at(line)?;
     end_of(rest)?;
@@ -207,7 +207,7 @@ fn session_of(line: &[u8]) -> Result<u16, Unread>
 }
 
 fn kind_named(word: &[u8]) -> Result<Kind, Unread>
-    ensures { Gives (λ k. k) result (spec.kind_named word.now) }
+    ensures { ReadsAs (λ k. k) result (spec.kind_named word.now) }
 {
     if is_word(word, b"full") {
         Ok(Kind::Full)
@@ -219,9 +219,9 @@ fn kind_named(word: &[u8]) -> Result<Kind, Unread>
 }
 
 /// A kind of checkpoint alone.
-#[tactic(auto, unfolding(crate::specs::Commands::kind_of))]
+#[tactic(auto, unfolding(crate::specs::Commands::kind_in))]
 fn kind_of(line: &[u8]) -> Result<Kind, Unread>
-    ensures { Gives (λ k. k) result (spec.kind_of (words line.now)) }
+    ensures { ReadsAs (λ k. k) result (spec.kind_in (words line.now)) }
 {
     let (word, rest) = word_at(line)?;
     let kind = kind_named(word)?;
@@ -234,14 +234,14 @@ fn alone<A: Allocator>(
     command: Command<Arguments<A>>,
     line: &[u8],
 ) -> Result<Command<Arguments<A>>, Unread>
-    ensures { Gives (λ c. c) result (spec.alone command (words line.now)) }
+    ensures { ReadsAs (λ c. c) result (spec.without_arguments command (words line.now)) }
 {
     end_of(line)?;
     Ok(command)
 }
 
 fn command_name(word: &[u8]) -> Result<CommandName, Unread>
-    ensures { Gives (λ c. c) result (spec.command_name word.now) }
+    ensures { ReadsAs (λ c. c) result (spec.command_name word.now) }
 {
     if is_word(word, b"begin") {
         Ok(CommandName::Begin)
@@ -273,7 +273,7 @@ fn command_name(word: &[u8]) -> Result<CommandName, Unread>
 }
 
 fn command_at(line: &[u8]) -> Result<(CommandName, &[u8]), Unread>
-    ensures { Gives (λ p. (p.0, words p.1.now)) result (spec.command_at (words line.now)) }
+    ensures { ReadsAs (λ p. (p.0, words p.1.now)) result (spec.command_at (words line.now)) }
 {
     let (word, rest) = word_at(line)?;
     Ok((command_name(word)?, rest))
@@ -286,7 +286,7 @@ pub(crate) fn command_of<A: Allocator + Clone>(
     names: &Names<A>,
     line: &[u8],
 ) -> Result<Command<Arguments<A>>, Unread>
-    ensures { Gives (λ c. c) result (spec.command_of names.now (words line.now)) }
+    ensures { ReadsAs (λ c. c) result (spec.command_of names.now (words line.now)) }
 {
     let (name, rest) = command_at(line)?;
     match name {

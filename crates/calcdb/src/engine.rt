@@ -6,19 +6,18 @@ ghost use Rattle.procedure.specs.Bytes.{Bytes};
 ghost use Rattle.image.specs.Openings.{is_opening};
 ghost use Rattle.steps.specs.Openings.{IsOpened};
 ghost use Rattle.steps.specs.CoreViews.{CoreView};
-ghost use Rattle.calcdb.specs.Outcomes.{EndsAs, HasLine, Refuses, RefusesScript, RunsTo, StopsAs};
+ghost use Rattle.calcdb.specs.Outcomes.{EndsRun, RefusesScript, RunsTo, StopsAs};
 ghost use Rattle.calcdb.specs.Scripts.{script_of};
 ghost use Rattle.calcdb.specs.Runs.{Carried, CarriesAll, HasRun, Sent};
 ghost use Rattle.calcdb.specs.declared.faults.Fault.TheVariants as fault;
 
 use crate::commands::{Arguments, Command};
+use crate::faults::refusals::write_fault;
 use crate::faults::{Fault, Reason};
-use crate::refusals::{push_fault, say};
 use crate::run::run_commands;
-use crate::scripts::{Script, ScriptFault, read_script};
-use crate::streams::{ReadError, read_text};
+use crate::scripts::{SCRIPT_BYTES, Script, ScriptFault, read_script};
 use image::Image;
-use procedure::NoMemory;
+use procedure::streams::{Unread, read_past};
 use std::alloc::Allocator;
 use std::io::{Read, Write};
 use steps::Core;
@@ -30,22 +29,6 @@ pub(crate) struct Ran<A: Allocator> {
     pub images: Vec<Image<A>, A>,
 }
 
-/// Writes the one line of a fault, which is the answer unless that fails.
-pub(crate) fn refuse<W: Write, A: Allocator + Clone>(
-    alloc: A,
-    writer: &mut W,
-    fault: Fault,
-) -> Fault
-    requires { HasLine fault }
-    ensures { Refuses fault (W.contents writer.old) (W.contents writer.new) result }
-{
-    let mut line = Vec::new(alloc);
-    match push_fault(&mut line, &fault) {
-        Ok(()) => say(writer, line.as_slice(), fault),
-        Err(NoMemory) => Fault::NoMemory,
-    }
-}
-
 /// Writes the one line of a text that is no script.
 fn refuse_script<W: Write, A: Allocator + Clone>(
     alloc: A,
@@ -55,8 +38,8 @@ fn refuse_script<W: Write, A: Allocator + Clone>(
     ensures { RefusesScript fault (W.contents writer.old) (W.contents writer.new) result }
 {
     match fault {
-        ScriptFault::Line(number) => refuse(alloc, writer, Fault::Line(number)),
-        ScriptFault::Size => refuse(alloc, writer, Fault::Size),
+        ScriptFault::Line(number) => write_fault(alloc, writer, Fault::Line(number)),
+        ScriptFault::Size => write_fault(alloc, writer, Fault::Size),
         ScriptFault::NoMemory => Fault::NoMemory,
     }
 }
@@ -108,7 +91,7 @@ fn run_text<W: Write, A: Allocator + Copy>(
 ) -> Result<Ran<A>, Fault>
     requires { is_opening opening ≡ true }
     ensures run { IfOk result (λ r. (out : Bytes) × RunsTo A (script_of text.now) opening r.core out r.images.items × Appends (W.contents writer.old) (W.contents writer.new) out) }
-    ensures fault { IfErr result (λ f. EndsAs A (script_of text.now) opening (W.contents writer.old) (W.contents writer.new) f) }
+    ensures fault { IfErr result (λ f. EndsRun A (script_of text.now) opening (W.contents writer.old) (W.contents writer.new) f) }
 {
     match read_script(alloc, text) {
         Ok(script) => run_opened(alloc, writer, script, opening),
@@ -130,16 +113,16 @@ pub(crate) fn run_script<R: Read, W: Write, A: Allocator + Copy>(
     // are those that it took.
     ensures run { IfOk result (λ r. (source : Bytes) → R.remaining reader.old ≡ Some source → (text : Bytes) × RunsTo A (script_of source) opening r.core text r.images.items × Appends (W.contents writer.old) (W.contents writer.new) text) }
     // And else the one line of the fault, or a beginning of the answers.
-    ensures fault { IfErr result (λ f. (source : Bytes) → R.remaining reader.old ≡ Some source → EndsAs A (script_of source) opening (W.contents writer.old) (W.contents writer.new) f) }
+    ensures fault { IfErr result (λ f. (source : Bytes) → R.remaining reader.old ≡ Some source → EndsRun A (script_of source) opening (W.contents writer.old) (W.contents writer.new) f) }
 {
     if !opening.is_opening() {
         let refused = Fault::Refused(Reason::NotAnOpening);
-        return Err(refuse(alloc, writer, refused));
+        return Err(write_fault(alloc, writer, refused));
     }
-    let text = match read_text(alloc, reader) {
+    let text = match read_past(alloc, reader, SCRIPT_BYTES) {
         Ok(text) => text,
-        Err(ReadError::Read) => return Err(Fault::Read),
-        Err(ReadError::NoMemory) => return Err(Fault::NoMemory),
+        Err(Unread::ReadFault) => return Err(Fault::Read),
+        Err(Unread::NoMemory) => return Err(Fault::NoMemory),
     };
     run_text(alloc, writer, text.as_slice(), opening)
 }

@@ -1,13 +1,19 @@
-//! Why a command of the program ends early.
+//! Why a command of the program ends early. How that is said on standard output is in `refusals`, how on
+//! standard error in `failures`, and why a line isn't read in `unread`.
 
 ghost use Rattle.std.specs.Prelude.{◌≡◌, Some};
 ghost use Rattle.calcdb.specs.declared.faults.Fault.TheVariants as fault;
 ghost use Rattle.calcdb.specs.declared.faults.Reason.TheVariants as reason;
 
+pub(crate) mod failures;
+pub(crate) mod refusals;
+pub(crate) mod unread;
+
 use crate::scripts::ScriptFault;
 use commitlog::LogError;
 use image::{MergeError, ReadError};
 use procedure::NoMemory;
+use procedure::streams::WriteFault;
 use replay::RecoverError;
 use std::alloc::{AllocError, AllocFailed};
 use std::error::Error;
@@ -45,6 +51,14 @@ impl From<ScriptFault> for Fault {
             ScriptFault::Size => Fault::Size,
             ScriptFault::NoMemory => Fault::Refused(Reason::NoMemory),
         }
+    }
+}
+
+impl From<WriteFault> for Fault {
+    ghost from_gives = { λ _ f. f ≡ fault.Write };
+
+    fn from(_failed: WriteFault) -> Self {
+        Fault::Write
     }
 }
 

@@ -1,6 +1,6 @@
 //! The files that the program reads, and the images that it writes to files.
 
-use crate::failures::{Failure, OutFile};
+use crate::faults::failures::{Failure, OutFile};
 use image::{Image, WriteError, seal_to};
 use std::alloc::Allocator;
 use std::fs;

@@ -2,12 +2,12 @@
 
 ghost use Rattle.std.specs.Prelude.{◌≡◌, ◌≤◌, ◌<◌, ℕ, IfOk, None};
 ghost use Rattle.procedure.specs.Catalogs.{instruction_fault, operand_fault, pair_fault, register_fault, test_fault};
-ghost use Rattle.calcdb.specs.Reads.{Gives};
+ghost use Rattle.calcdb.specs.Reads.{ReadsAs};
 ghost use Rattle.calcdb.specs.Instructions as spec;
 ghost use Rattle.calcdb.specs.Lines.{words};
 
+use crate::faults::unread::Unread;
 use crate::lines::{end_of, word_at};
-use crate::unread::Unread;
 use crate::values::{decimal_of, value_of};
 use procedure::limits::{LITERAL_BYTES, REGISTERS};
 use procedure::outcomes::FIRST_ABORT;
@@ -42,7 +42,7 @@ pub(crate) fn is_word(word: &[u8], name: &[u8]) -> bool
 }
 
 fn verb_of(word: &[u8]) -> Result<Verb, Unread>
-    ensures { Gives (λ v. v) result (spec.verb_of word.now) }
+    ensures { ReadsAs (λ v. v) result (spec.verb_of word.now) }
 {
     if is_word(word, b"read") {
         Ok(Verb::Read)
@@ -64,7 +64,7 @@ fn verb_of(word: &[u8]) -> Result<Verb, Unread>
 }
 
 fn test_of(word: &[u8]) -> Result<TestName, Unread>
-    ensures { Gives (λ t. t) result (spec.test_of word.now) }
+    ensures { ReadsAs (λ t. t) result (spec.test_of word.now) }
 {
     if is_word(word, b"absent") {
         Ok(TestName::Absent)
@@ -78,14 +78,14 @@ fn test_of(word: &[u8]) -> Result<TestName, Unread>
 }
 
 fn verb_at(line: &[u8]) -> Result<(Verb, &[u8]), Unread>
-    ensures { Gives (λ p. (p.0, words p.1.now)) result (spec.verb_at (words line.now)) }
+    ensures { ReadsAs (λ p. (p.0, words p.1.now)) result (spec.verb_at (words line.now)) }
 {
     let (word, rest) = word_at(line)?;
     Ok((verb_of(word)?, rest))
 }
 
 fn test_at(line: &[u8]) -> Result<(TestName, &[u8]), Unread>
-    ensures { Gives (λ p. (p.0, words p.1.now)) result (spec.test_at (words line.now)) }
+    ensures { ReadsAs (λ p. (p.0, words p.1.now)) result (spec.test_at (words line.now)) }
 {
     let (word, rest) = word_at(line)?;
     Ok((test_of(word)?, rest))
@@ -94,7 +94,7 @@ fn test_at(line: &[u8]) -> Result<(TestName, &[u8]), Unread>
 /// The index that one digit is, below the count.
 fn index_of(count: u8, word: &[u8]) -> Result<u8, Unread>
     requires { count ≤ 8 }
-    ensures value { Gives (λ i. i) result (spec.index_of count word.now) }
+    ensures value { ReadsAs (λ i. i) result (spec.index_of count word.now) }
     ensures lawful { IfOk result (λ i. i < count) }
 {
     match word {
@@ -104,7 +104,7 @@ fn index_of(count: u8, word: &[u8]) -> Result<u8, Unread>
 }
 
 fn register_of(word: &[u8]) -> Result<u8, Unread>
-    ensures value { Gives (λ r. r) result (spec.register_of word.now) }
+    ensures value { ReadsAs (λ r. r) result (spec.register_of word.now) }
     ensures lawful { IfOk result (λ r. register_fault r ≡ None) }
 {
     match word {
@@ -114,7 +114,7 @@ fn register_of(word: &[u8]) -> Result<u8, Unread>
 }
 
 fn register_at(line: &[u8]) -> Result<(u8, &[u8]), Unread>
-    ensures value { Gives (λ p. (p.0, words p.1.now)) result (spec.register_at (words line.now)) }
+    ensures value { ReadsAs (λ p. (p.0, words p.1.now)) result (spec.register_at (words line.now)) }
     ensures lawful { IfOk result (λ p. register_fault p.0 ≡ None) }
 {
     let (word, rest) = word_at(line)?;
@@ -123,7 +123,7 @@ fn register_at(line: &[u8]) -> Result<(u8, &[u8]), Unread>
 
 /// A value of at most 256 bytes.
 fn literal_of<A: Allocator>(alloc: A, word: &[u8]) -> Result<Operand<Value<A>>, Unread>
-    ensures value { Gives (λ o. o) result (spec.literal_of word.now) }
+    ensures value { ReadsAs (λ o. o) result (spec.literal_of word.now) }
     ensures lawful { (arity : ℕ) → IfOk result (λ o. operand_fault arity o ≡ None) }
 {
     let bytes = value_of(alloc, word)?;
@@ -139,7 +139,7 @@ fn literal_of<A: Allocator>(alloc: A, word: &[u8]) -> Result<Operand<Value<A>>, 
 /// An argument below the arity, a register, or a literal.
 fn operand_of<A: Allocator>(alloc: A, arity: u8, word: &[u8]) -> Result<Operand<Value<A>>, Unread>
     requires { arity ≤ 8 }
-    ensures value { Gives (λ o. o) result (spec.operand_of arity word.now) }
+    ensures value { ReadsAs (λ o. o) result (spec.operand_of arity word.now) }
     ensures lawful { IfOk result (λ o. operand_fault arity o ≡ None) }
 {
     match word {
@@ -157,7 +157,7 @@ fn operand_at<'a, A: Allocator>(
     line: &'a [u8],
 ) -> Result<(Operand<Value<A>>, &'a [u8]), Unread>
     requires { arity ≤ 8 }
-    ensures value { Gives (λ p. (p.0, words p.1.now)) result (spec.operand_at arity (words line.now)) }
+    ensures value { ReadsAs (λ p. (p.0, words p.1.now)) result (spec.operand_at arity (words line.now)) }
     ensures lawful { IfOk result (λ p. operand_fault arity p.0 ≡ None) }
 {
     let (word, rest) = word_at(line)?;
@@ -166,7 +166,7 @@ fn operand_at<'a, A: Allocator>(
 
 /// A decimal of 16 to 255.
 fn code_of(word: &[u8]) -> Result<u8, Unread>
-    ensures value { Gives (λ c. c) result (spec.code_of word.now) }
+    ensures value { ReadsAs (λ c. c) result (spec.code_of word.now) }
     ensures lawful { IfOk result (λ c. FIRST_ABORT ≤ c) }
 {
     let code = decimal_of(255, word)? as u8;
@@ -178,7 +178,7 @@ fn code_of(word: &[u8]) -> Result<u8, Unread>
 
 #[tactic(auto, unfolding(crate::specs::Instructions::code_at))]
 fn code_at(line: &[u8]) -> Result<(u8, &[u8]), Unread>
-    ensures value { Gives (λ p. (p.0, words p.1.now)) result (spec.code_at (words line.now)) }
+    ensures value { ReadsAs (λ p. (p.0, words p.1.now)) result (spec.code_at (words line.now)) }
     ensures lawful { IfOk result (λ p. FIRST_ABORT ≤ p.0) }
 {
     let (word, rest) = word_at(line)?;
@@ -189,7 +189,7 @@ fn code_at(line: &[u8]) -> Result<(u8, &[u8]), Unread>
 #[tactic(auto, unfolding(crate::specs::Instructions::one_operand))]
 fn one_operand<A: Allocator>(alloc: A, arity: u8, line: &[u8]) -> Result<Operand<Value<A>>, Unread>
     requires { arity ≤ 8 }
-    ensures value { Gives (λ o. o) result (spec.one_operand arity (words line.now)) }
+    ensures value { ReadsAs (λ o. o) result (spec.one_operand arity (words line.now)) }
     ensures lawful { IfOk result (λ o. operand_fault arity o ≡ None) }
 {
     let (x, rest) = operand_at(alloc, arity, line)?;
@@ -205,7 +205,7 @@ fn two_operands<A: Allocator + Clone>(
     line: &[u8],
 ) -> Result<(Operand<Value<A>>, Operand<Value<A>>), Unread>
     requires { arity ≤ 8 }
-    ensures value { Gives (λ p. p) result (spec.two_operands arity (words line.now)) }
+    ensures value { ReadsAs (λ p. p) result (spec.two_operands arity (words line.now)) }
     ensures lawful { IfOk result (λ p. pair_fault arity p.0 p.1 ≡ None) }
 {
     let (x, rest) = operand_at(alloc.clone()?, arity, line)?;
@@ -221,7 +221,7 @@ fn test_line<A: Allocator + Clone>(
     line: &[u8],
 ) -> Result<Test<Value<A>>, Unread>
     requires { arity ≤ 8 }
-    ensures value { Gives (λ t. t) result (spec.test_line arity (words line.now)) }
+    ensures value { ReadsAs (λ t. t) result (spec.test_line arity (words line.now)) }
     ensures lawful { IfOk result (λ t. test_fault arity t ≡ None) }
 {
     let (name, rest) = test_at(line)?;
@@ -241,7 +241,7 @@ fn test_line<A: Allocator + Clone>(
 #[tactic(auto, unfolding(crate::specs::Instructions::read_line))]
 fn read_line<A: Allocator>(alloc: A, arity: u8, line: &[u8]) -> Result<Instr<Value<A>>, Unread>
     requires { arity ≤ 8 }
-    ensures value { Gives (λ i. i) result (spec.read_line arity (words line.now)) }
+    ensures value { ReadsAs (λ i. i) result (spec.read_line arity (words line.now)) }
     ensures lawful { IfOk result (λ i. instruction_fault arity i ≡ None) }
 {
     let (register, rest) = register_at(line)?;
@@ -256,7 +256,7 @@ fn sum_line<A: Allocator + Clone>(
     line: &[u8],
 ) -> Result<(u8, (Operand<Value<A>>, Operand<Value<A>>)), Unread>
     requires { arity ≤ 8 }
-    ensures value { Gives (λ s. s) result (spec.sum_line arity (words line.now)) }
+    ensures value { ReadsAs (λ s. s) result (spec.sum_line arity (words line.now)) }
     ensures lawful { IfOk result (λ s. (register_fault s.0 ≡ None) × (pair_fault arity s.1.0 s.1.1 ≡ None)) }
 {
     let (register, rest) = register_at(line)?;
@@ -270,7 +270,7 @@ fn abort_line<A: Allocator + Clone>(
     line: &[u8],
 ) -> Result<Instr<Value<A>>, Unread>
     requires { arity ≤ 8 }
-    ensures value { Gives (λ i. i) result (spec.abort_line arity (words line.now)) }
+    ensures value { ReadsAs (λ i. i) result (spec.abort_line arity (words line.now)) }
     ensures lawful { IfOk result (λ i. instruction_fault arity i ≡ None) }
 {
     let (code, rest) = code_at(line)?;
@@ -284,7 +284,7 @@ pub(crate) fn instruction_of<A: Allocator + Clone>(
     line: &[u8],
 ) -> Result<Instr<Value<A>>, Unread>
     requires { arity ≤ 8 }
-    ensures value { Gives (λ i. i) result (spec.instruction_of arity (words line.now)) }
+    ensures value { ReadsAs (λ i. i) result (spec.instruction_of arity (words line.now)) }
     ensures lawful { IfOk result (λ i. instruction_fault arity i ≡ None) }
 {
     let (verb, rest) = verb_at(line)?;

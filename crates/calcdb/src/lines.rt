@@ -1,11 +1,11 @@
 //! A text as lines, and a line as words.
 
 ghost use Rattle.std.specs.Prelude.{◌≡◌, ◌<◌, ◌∷◌, length, option_map, position, IfSome};
-ghost use Rattle.calcdb.specs.Reads.{Gives};
+ghost use Rattle.calcdb.specs.Reads.{ReadsAs};
 ghost use Rattle.calcdb.specs.Lines as spec;
 ghost use Rattle.calcdb.specs.Lines.{left_pieces, pieces, words};
 
-use crate::unread::Unread;
+use crate::faults::unread::Unread;
 
 fn is_line_feed(byte: u8) -> bool
     ensures { result ≡ spec.is_line_feed byte }
@@ -95,14 +95,14 @@ pub(crate) fn first_word(line: &[u8]) -> Option<(&[u8], &[u8])>
 
 /// The first word of a line, and what stands behind it.
 pub(crate) fn word_at(line: &[u8]) -> Result<(&[u8], &[u8]), Unread>
-    ensures { Gives (λ p. (p.0.now, words p.1.now)) result (spec.first_word (words line.now)) }
+    ensures { ReadsAs (λ p. (p.0.now, words p.1.now)) result (spec.first_word (words line.now)) }
 {
     first_word(line).ok_or(Unread::Faulty)
 }
 
 /// Nothing, where no word is left.
 pub(crate) fn end_of(line: &[u8]) -> Result<(), Unread>
-    ensures { Gives (λ p. p) result (spec.no_word (words line.now)) }
+    ensures { ReadsAs (λ p. p) result (spec.no_word (words line.now)) }
 {
     match first_word(line) {
         Some(_) => Err(Unread::Faulty),

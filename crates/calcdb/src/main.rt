@@ -8,83 +8,27 @@
 //! prints (`Showing`), how these commands end (`Refusing`), and the command line (`CommandLines`).
 #![tactic(auto)]
 
-#[cfg(test)]
-mod call_growth_tests;
-#[cfg(test)]
-mod catalog_tests;
-#[cfg(test)]
-mod checkpoint_rows;
 mod command_line;
-#[cfg(test)]
-mod command_line_tests;
 mod commands;
-#[cfg(test)]
-mod core_tests;
-#[cfg(test)]
-mod device_tests;
-#[cfg(test)]
-mod devices;
 mod engine;
-#[cfg(test)]
-mod example_tests;
-mod failures;
 mod faults;
 mod files;
-#[cfg(test)]
-mod growth_tests;
-#[cfg(test)]
-mod growths;
 mod image_files;
-#[cfg(test)]
-mod image_growth_tests;
 mod instructions;
-#[cfg(test)]
-mod large_tests;
 mod laws;
 mod lines;
-#[cfg(test)]
-mod logs;
-#[cfg(test)]
-mod made_files;
 mod merge_files;
-#[cfg(test)]
-mod merge_rows;
 mod output;
 mod pairs;
-#[cfg(test)]
-mod pairs_tests;
 mod program;
-#[cfg(test)]
-mod program_rows;
-#[cfg(test)]
-mod reclaim_rows;
 mod recover_files;
-#[cfg(test)]
-mod recover_rows;
-mod refusals;
-#[cfg(test)]
-mod row_tests;
-#[cfg(test)]
-mod rows;
 mod run;
 mod run_folder;
-#[cfg(test)]
-mod run_rows;
-#[cfg(test)]
-mod schedule_rows;
 mod scripts;
 mod show;
-mod streams;
 #[cfg(test)]
 mod tests;
-mod unread;
 mod values;
-#[cfg(test)]
-mod without_memory_tests;
-#[cfg(test)]
-mod work_growth_tests;
-#[cfg(test)]
-mod worked_rows;
 
 use std::process::ExitCode;
 

@@ -4,16 +4,16 @@ ghost use Rattle.std.specs.Prelude.{◌≡◌, ◌⊎◌, Err, IfErr, IfOk, Ok, 
 ghost use Rattle.std.specs.declared.result.Result.{Result};
 ghost use Rattle.std.specs.Io.KnownBytes.{Appends};
 ghost use Rattle.image.specs.Images.{Image as SpecImage};
-ghost use Rattle.calcdb.specs.Merging.{EndsAs, IsMerge, merge_of};
+ghost use Rattle.calcdb.specs.Merging.{EndsMerge, IsMerge, merge_of};
 ghost use Rattle.calcdb.specs.Output.{header_line};
 ghost use Rattle.calcdb.specs.Reasons.{Tells};
 ghost use Rattle.calcdb.specs.Refusing.{Suits};
 ghost use Rattle.calcdb.specs.declared.faults.Reason.{Reason};
 ghost use Rattle.calcdb.specs.declared.faults.Reason.TheVariants as reason;
 
+use crate::faults::refusals::{refuse, write_header};
 use crate::faults::{Fault, Reason};
 use crate::image_files::images_of;
-use crate::refusals::{refuse, write_header};
 use image::{Image, merge};
 use std::alloc::Allocator;
 use std::io::Write;
@@ -50,7 +50,7 @@ pub(crate) fn merge_files<W: Write, A: Allocator + Copy>(
     // The image is the merge of what the files spell, and its header was written.
     ensures image { IfOk result (λ i. IsMerge (map (λ f. f.items) images.now) (Ok i) × Appends (W.contents writer.old) (W.contents writer.new) (header_line i)) }
     // And else the one line of the fault, or a beginning of a line.
-    ensures fault { IfErr result (λ f. EndsAs (map (λ f. f.items) images.now) (W.contents writer.old) (W.contents writer.new) f) }
+    ensures fault { IfErr result (λ f. EndsMerge (map (λ f. f.items) images.now) (W.contents writer.old) (W.contents writer.new) f) }
     // There is no other answer.
     ensures only_image { (says : Result SpecImage Reason) → IsMerge (map (λ f. f.items) images.now) says → IfOk result (λ i. says ≡ Ok i) }
     ensures only_fault { (says : Result SpecImage Reason) → IsMerge (map (λ f. f.items) images.now) says → IfErr result (λ f. Suits f says) }

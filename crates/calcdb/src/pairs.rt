@@ -10,28 +10,28 @@ ghost use Rattle.calcdb.specs.Lines.{left_lines, lines, words};
 ghost use Rattle.calcdb.specs.Outcomes.{HasLine};
 ghost use Rattle.calcdb.specs.Output.{header_line};
 ghost use Rattle.calcdb.specs.Pairs as spec;
-ghost use Rattle.calcdb.specs.Pairs.{EndsAs, IsFault, image_of};
-ghost use Rattle.calcdb.specs.Reads.{Gives};
-ghost use Rattle.calcdb.specs.Scripts.{Tells};
+ghost use Rattle.calcdb.specs.Pairs.{EndsLoad, IsLoadFault, image_of_pairs};
+ghost use Rattle.calcdb.specs.Reads.{ReadsAs};
+ghost use Rattle.calcdb.specs.Scripts.{TellsScript};
 ghost use Rattle.calcdb.specs.declared.scripts.ScriptFault.{ScriptFault as SpecFault};
 ghost use Rattle.calcdb.specs.declared.scripts.ScriptFault.TheVariants as script_fault;
 
+use crate::faults::refusals::{refuse, write_header};
+use crate::faults::unread::Unread;
 use crate::faults::{Fault, Reason};
 use crate::lines::{end_of, is_allowed, is_skipped, line_at, without_return, word_at};
-use crate::refusals::{refuse, write_header};
 use crate::scripts::{SCRIPT_BYTES, ScriptFault};
-use crate::streams::{ReadError, read_text};
-use crate::unread::Unread;
 use crate::values::value_of;
 use image::limits::ENTRIES;
 use image::{Image, OpeningError};
+use procedure::streams::{self, read_past};
 use procedure::{Key, KeyMap, Table, Value};
 use std::alloc::Allocator;
 use std::io::{Read, Write};
 
 /// The key that a word is.
 fn key_of<A: Allocator>(alloc: A, word: &[u8]) -> Result<Key, Unread>
-    ensures { Gives (λ k. k) result (spec.key_of word.now) }
+    ensures { ReadsAs (λ k. k) result (spec.key_of word.now) }
 {
     let bytes = value_of(alloc, word)?;
     Key::new(bytes.as_slice()).ok_or(Unread::Faulty)
@@ -39,7 +39,7 @@ fn key_of<A: Allocator>(alloc: A, word: &[u8]) -> Result<Key, Unread>
 
 /// What a key holds, as a word.
 fn held_of<A: Allocator>(alloc: A, word: &[u8]) -> Result<Value<A>, Unread>
-    ensures { Gives (λ v. v) result (spec.held_of word.now) }
+    ensures { ReadsAs (λ v. v) result (spec.held_value_of word.now) }
 {
     Value::new(value_of(alloc, word)?).ok_or(Unread::Faulty)
 }
@@ -47,7 +47,7 @@ fn held_of<A: Allocator>(alloc: A, word: &[u8]) -> Result<Value<A>, Unread>
 /// The key and the value that a line is.
 #[tactic(auto, unfolding(crate::specs::Pairs::pair_of))]
 fn pair_of<A: Allocator + Clone>(alloc: A, line: &[u8]) -> Result<(Key, Value<A>), Unread>
-    ensures { Gives (λ p. (p.0, p.1)) result (spec.pair_of (words line.now)) }
+    ensures { ReadsAs (λ p. (p.0, p.1)) result (spec.pair_of (words line.now)) }
 {
     let (first, rest) = word_at(line)?;
     let key = key_of(alloc.clone()?, first)?;
@@ -63,7 +63,7 @@ fn add_pair<A: Allocator + Clone>(
     key: Key,
     held: Value<A>,
 ) -> Result<(), Unread>
-    ensures { Gives (λ _. table.new) result (spec.with_pair table.old (key, held)) }
+    ensures { ReadsAs (λ _. table.new) result (spec.with_pair table.old (key, held)) }
 {
     if table.len() >= ENTRIES || table.get(&key).is_some() {
         return Err(Unread::Faulty);
@@ -78,7 +78,7 @@ fn read_words<A: Allocator + Clone>(
     table: &mut Table<A>,
     line: &[u8],
 ) -> Result<(), Unread>
-    ensures { Gives (λ _. table.new) result (spec.after_words table.old (words line.now)) }
+    ensures { ReadsAs (λ _. table.new) result (spec.table_after_words table.old (words line.now)) }
 {
     if is_skipped(line) {
         return Ok(());
@@ -93,7 +93,7 @@ fn read_line<A: Allocator + Clone>(
     table: &mut Table<A>,
     line: &[u8],
 ) -> Result<(), Unread>
-    ensures { Gives (λ _. table.new) result (spec.after_line table.old line.now) }
+    ensures { ReadsAs (λ _. table.new) result (spec.table_after_line table.old line.now) }
 {
     if !is_allowed(line) {
         return Err(Unread::Faulty);
@@ -102,16 +102,16 @@ fn read_line<A: Allocator + Clone>(
 }
 
 /// Reads one line, and answers what is left behind it.
-#[tactic(auto, unfolding(crate::specs::Pairs::table_after))]
+#[tactic(auto, unfolding(crate::specs::Pairs::table_after_lines))]
 fn read_next<'a, A: Allocator + Clone>(
     alloc: A,
     table: &mut Table<A>,
     number: u64,
     text: &'a [u8],
 ) -> Result<Option<&'a [u8]>, ScriptFault>
-    ensures ok { IfOk result (λ behind. spec.table_after table.old number (lines text.now) ≡ spec.table_after table.new (number + 1) (left_lines (option_map (λ t. t.now) behind))) }
+    ensures ok { IfOk result (λ behind. spec.table_after_lines table.old number (lines text.now) ≡ spec.table_after_lines table.new (number + 1) (left_lines (option_map (λ t. t.now) behind))) }
     ensures shorter { IfOk result (λ behind. IfSome behind (λ t. length t.now < length text.now)) }
-    ensures err { IfErr result (λ e. (e ≡ script_fault.NoMemory) ⊎ (spec.table_after table.old number (lines text.now) ≡ Err e)) }
+    ensures err { IfErr result (λ e. (e ≡ script_fault.NoMemory) ⊎ (spec.table_after_lines table.old number (lines text.now) ≡ Err e)) }
 {
     let (line, behind) = line_at(text);
     match read_line(alloc, table, without_return(line)) {
@@ -124,7 +124,7 @@ fn read_next<'a, A: Allocator + Clone>(
 /// Reads all lines.
 fn read_lines<A: Allocator + Copy>(alloc: A, text: &[u8]) -> Result<Table<A>, ScriptFault>
     requires { length text.now ≤ SCRIPT_BYTES }
-    ensures { Tells (λ t. t) result (spec.table_after map.empty 1 (lines text.now)) }
+    ensures { TellsScript (λ t. t) result (spec.table_after_lines map.empty 1 (lines text.now)) }
 {
     let mut table = KeyMap::new(alloc);
     let mut number = 1;
@@ -137,9 +137,9 @@ fn read_lines<A: Allocator + Copy>(alloc: A, text: &[u8]) -> Result<Table<A>, Sc
 }
 
 /// The table of a text of at most 4,194,304 bytes, or its first faulty line.
-#[tactic(auto, unfolding(crate::specs::Pairs::table_of))]
+#[tactic(auto, unfolding(crate::specs::Pairs::table_of_pairs))]
 fn read_pairs<A: Allocator + Copy>(alloc: A, text: &[u8]) -> Result<Table<A>, ScriptFault>
-    ensures value { Tells (λ t. t) result (spec.table_of text.now) }
+    ensures value { TellsScript (λ t. t) result (spec.table_of_pairs text.now) }
     ensures few { IfOk result (λ t. map.len t ≤ ENTRIES) }
 {
     if text.len() > SCRIPT_BYTES {
@@ -150,7 +150,7 @@ fn read_pairs<A: Allocator + Copy>(alloc: A, text: &[u8]) -> Result<Table<A>, Sc
 
 /// The opening image of the pairs of a text.
 fn read_image<A: Allocator + Copy>(alloc: A, text: &[u8]) -> Result<Image<A>, ScriptFault>
-    ensures { Tells (λ i. i) result (image_of text.now) }
+    ensures { TellsScript (λ i. i) result (image_of_pairs text.now) }
 {
     match Image::opening(alloc, read_pairs(alloc, text)?) {
         Ok(image) => Ok(image),
@@ -161,7 +161,7 @@ fn read_image<A: Allocator + Copy>(alloc: A, text: &[u8]) -> Result<Image<A>, Sc
 
 /// The fault of a text, in the words of the program.
 fn fault_of_text(fault: ScriptFault) -> Fault
-    ensures fault { (says : Result SpecImage SpecFault) → (fault ≡ script_fault.NoMemory) ⊎ (says ≡ Err fault) → IsFault says result }
+    ensures fault { (says : Result SpecImage SpecFault) → (fault ≡ script_fault.NoMemory) ⊎ (says ≡ Err fault) → IsLoadFault says result }
     ensures has_line { HasLine result }
 {
     match fault {
@@ -177,8 +177,8 @@ fn load_text<W: Write, A: Allocator + Copy>(
     writer: &mut W,
     text: &[u8],
 ) -> Result<Image<A>, Fault>
-    ensures ok { IfOk result (λ i. (image_of text.now ≡ Ok i) × Appends (W.contents writer.old) (W.contents writer.new) (header_line i)) }
-    ensures err { IfErr result (λ f. EndsAs (image_of text.now) (W.contents writer.old) (W.contents writer.new) f) }
+    ensures ok { IfOk result (λ i. (image_of_pairs text.now ≡ Ok i) × Appends (W.contents writer.old) (W.contents writer.new) (header_line i)) }
+    ensures err { IfErr result (λ f. EndsLoad (image_of_pairs text.now) (W.contents writer.old) (W.contents writer.new) f) }
 {
     let image = match read_image(alloc, text) {
         Ok(image) => image,
@@ -199,14 +199,14 @@ pub(crate) fn load<R: Read, W: Write, A: Allocator + Copy>(
     writer: &mut W,
 ) -> Result<Image<A>, Fault>
     // Where the reader tells its bytes: the image is that of their pairs, and its header was written.
-    ensures image { IfOk result (λ i. (source : Bytes) → R.remaining reader.old ≡ Some source → (image_of source ≡ Ok i) × Appends (W.contents writer.old) (W.contents writer.new) (header_line i)) }
+    ensures image { IfOk result (λ i. (source : Bytes) → R.remaining reader.old ≡ Some source → (image_of_pairs source ≡ Ok i) × Appends (W.contents writer.old) (W.contents writer.new) (header_line i)) }
     // And else the one line of the fault, or a beginning of a line.
-    ensures fault { IfErr result (λ f. (source : Bytes) → R.remaining reader.old ≡ Some source → EndsAs (image_of source) (W.contents writer.old) (W.contents writer.new) f) }
+    ensures fault { IfErr result (λ f. (source : Bytes) → R.remaining reader.old ≡ Some source → EndsLoad (image_of_pairs source) (W.contents writer.old) (W.contents writer.new) f) }
 {
-    let text = match read_text(alloc, reader) {
+    let text = match read_past(alloc, reader, SCRIPT_BYTES) {
         Ok(text) => text,
-        Err(ReadError::Read) => return Err(Fault::Read),
-        Err(ReadError::NoMemory) => {
+        Err(streams::Unread::ReadFault) => return Err(Fault::Read),
+        Err(streams::Unread::NoMemory) => {
             let refused = Fault::Refused(Reason::NoMemory);
             return Err(refuse(alloc, writer, refused));
         }

@@ -1,15 +1,14 @@
 //! The program's work, apart from the process that it runs in.
 
 use crate::command_line::{RunFiles, Task, job};
-use crate::engine;
 use crate::engine::{Ran, run_script};
-use crate::failures::{Failure, OutFile};
+use crate::faults::failures::{Failure, OutFile};
+use crate::faults::refusals::{refuse, write_fault};
 use crate::faults::{Fault, Reason};
 use crate::files::{flush, input_of, read_file, read_files, write_image};
 use crate::merge_files::merge_files;
 use crate::pairs::load;
 use crate::recover_files::recover_files;
-use crate::refusals::refuse;
 use crate::run_folder::write_run;
 use crate::show::show;
 use clap::Error;
@@ -37,7 +36,7 @@ where
         Err(ReadFromError::Image(ReadError::NoMemory)) => Err(Failure::NoMemory),
         Err(ReadFromError::Image(refused)) => {
             let fault = Fault::Refused(Reason::from(refused));
-            Err(Failure::of_fault(engine::refuse(alloc, out, fault), name))
+            Err(Failure::of_fault(write_fault(alloc, out, fault), name))
         }
     }
 }

@@ -8,19 +8,19 @@ ghost use Rattle.image.specs.declared.limits.TheConstants.{ENTRIES};
 ghost use Rattle.replay.specs.Recovery.{Recovery};
 ghost use Rattle.calcdb.specs.OwnFiles.{FromImageFiles, FromOpeningFile, OfScript, OfSpelled};
 ghost use Rattle.calcdb.specs.Reasons.{Tells};
-ghost use Rattle.calcdb.specs.Recovering.{Agrees, EndsAs, IsFault, IsRecovered, OfFiles, ending_text, recovered_image, recovered_line};
+ghost use Rattle.calcdb.specs.Recovering.{AgreesWithRecovery, EndsRecovery, IsRecoveryFault, IsRecovered, OfFiles, recovered_ending_text, recovered_image, recovered_line};
 ghost use Rattle.calcdb.specs.Refusing.{FailsAs, no_memory};
 ghost use Rattle.calcdb.specs.declared.faults.Fault.{Fault as SpecFault};
 ghost use Rattle.calcdb.specs.declared.faults.Reason.{Reason as SpecReason};
 ghost use Rattle.calcdb.specs.declared.faults.Reason.TheVariants as reason;
 
+use crate::faults::refusals::{refuse, say_no_memory};
 use crate::faults::{Fault, Reason};
 use crate::image_files::images_of;
 use crate::output::{push_decimal, push_text};
-use crate::refusals::{refuse, say_no_memory};
 use crate::scripts::read_catalog;
-use crate::streams::{WriteError, write_out};
 use image::{Image, OpeningError};
+use procedure::streams::{WriteFault, write_out};
 use procedure::{Catalog, NoMemory, Table};
 use replay::{Recovered, recover};
 use std::alloc::Allocator;
@@ -60,7 +60,7 @@ fn push_recovered<A: Allocator, B: Allocator>(
 
 /// How a log ends.
 fn push_ending<A: Allocator>(out: &mut Vec<u8, A>, torn: bool) -> Result<(), NoMemory>
-    ensures { OnOk result (out.new.items ≡ out.old.items ++ ending_text torn) }
+    ensures { OnOk result (out.new.items ≡ out.old.items ++ recovered_ending_text torn) }
 {
     if torn {
         push_text(out, b" torn")
@@ -105,7 +105,7 @@ fn recover_from<A: Allocator + Copy>(
 ) -> Result<Recovered<A>, Fault>
     ensures ok { IfOk result (λ r. IsRecovered script.now log.now (map (λ f. f.items) files.now) (Ok r)) }
     ensures few { IfOk result (λ r. finite.len r.state ≤ ENTRIES) }
-    ensures err { IfErr result (λ f. IsFault script.now log.now (map (λ f. f.items) files.now) f) }
+    ensures err { IfErr result (λ f. IsRecoveryFault script.now log.now (map (λ f. f.items) files.now) f) }
     ensures only { (says : Result Recovery SpecFault) → IsRecovered script.now log.now (map (λ f. f.items) files.now) says → (result ≡ says) ⊎ (result ≡ Err no_memory) }
     ensures spelled { OfScript script.now log.now (map (λ f. f.items) files.now) result }
 {
@@ -129,7 +129,7 @@ fn finish<W: Write, A: Allocator + Copy>(
     };
     match write_out(writer, line.as_slice()) {
         Ok(()) => Ok(image),
-        Err(WriteError) => Err(Fault::Write),
+        Err(WriteFault) => Err(Fault::Write),
     }
 }
 
@@ -149,9 +149,9 @@ pub(crate) fn recover_files<W: Write, A: Allocator + Copy>(
     // The image is that of the table, and the line says what was recovered.
     ensures image { IfOk result (λ i. (r : Recovery) × IsRecovered script.now log.now (map (λ f. f.items) images.now) (Ok r) × (i ≡ recovered_image r) × Appends (W.contents writer.old) (W.contents writer.new) (recovered_line r)) }
     // And else the one line of the fault, or a beginning of a line.
-    ensures fault { IfErr result (λ f. EndsAs script.now log.now (map (λ f. f.items) images.now) (W.contents writer.old) (W.contents writer.new) f) }
+    ensures fault { IfErr result (λ f. EndsRecovery script.now log.now (map (λ f. f.items) images.now) (W.contents writer.old) (W.contents writer.new) f) }
     // The files say no other thing.
-    ensures only { (says : Result Recovery SpecFault) → IsRecovered script.now log.now (map (λ f. f.items) images.now) says → Agrees result says }
+    ensures only { (says : Result Recovery SpecFault) → IsRecovered script.now log.now (map (λ f. f.items) images.now) says → AgreesWithRecovery result says }
     // Of the files that a history left: its table, from the opening and from images of its checkpoints.
     ensures opening { FromOpeningFile script.now log.now (map (λ f. f.items) images.now) result }
     ensures images { FromImageFiles script.now log.now (map (λ f. f.items) images.now) result }

@@ -5,7 +5,6 @@ ghost use Rattle.std.specs.Io.KnownBytes.{Appends};
 ghost use Rattle.procedure.specs.Bytes.{Bytes};
 ghost use Rattle.steps.specs.Schedules.{image_in};
 ghost use Rattle.phase.specs.Phases.{phase_text};
-ghost use Rattle.steps.specs.Refusals.{abandon_error_text, advance_error_text, begin_error_text, capture_error_text, finish_error_text, start_error_text, step_error_text};
 ghost use Rattle.calcdb.specs.Runs.{Calls, Carried, Carries, CarriesAll, Ends, GoesOn, HasRun, Images, Says, Scans, Sent, count_of, images_shown, reply_text, shown_text};
 
 use crate::commands::{Arguments, Command, NewCall};
@@ -13,17 +12,14 @@ use crate::faults::Fault;
 use crate::output::{
     phase_name, push_answer, push_image, push_key, push_numbered, push_refusal, push_text,
 };
-use crate::streams::{WriteError, write_out};
 use image::Image;
 use phase::Phase;
 use procedure::NoMemory;
+use procedure::streams::{WriteFault, write_out};
 use std::alloc::Allocator;
 use std::io::Write;
 use steps::schedules::{Event, Reply};
-use steps::{
-    AbandonError, AdvanceError, BeginError, CaptureError, Captured, Core, FinishError, NotActive,
-    StartError, StepError, Stepped,
-};
+use steps::{Captured, Core, Stepped};
 
 /// How many instructions a procedure of the core has; 0 where there is none.
 fn count_of<A: Allocator>(core: &Core<A>, procedure: u16) -> usize
@@ -147,85 +143,6 @@ pub(crate) fn carry_out<A: Allocator + Clone>(
     }
 }
 
-fn begin_error_name(refused: BeginError) -> &'static [u8]
-    ensures { result.now ≡ begin_error_text refused }
-{
-    match refused {
-        BeginError::NoSession => b"no session",
-        BeginError::NoProcedure => b"no procedure",
-        BeginError::Arity => b"arity",
-        BeginError::ArgSize => b"arg size",
-        BeginError::SessionBusy => b"session busy",
-        BeginError::OldNumber => b"old number",
-        BeginError::NoMemory => b"no memory",
-    }
-}
-
-fn step_error_name(refused: StepError) -> &'static [u8]
-    ensures { result.now ≡ step_error_text refused }
-{
-    match refused {
-        StepError::NotActive => b"not active",
-        StepError::AlreadyReady => b"already ready",
-        StepError::Conflict => b"conflict",
-        StepError::TableFull => b"table full",
-        StepError::NoMemory => b"no memory",
-    }
-}
-
-fn finish_error_name(refused: FinishError) -> &'static [u8]
-    ensures { result.now ≡ finish_error_text refused }
-{
-    match refused {
-        FinishError::NotActive => b"not active",
-        FinishError::NotReady => b"not ready",
-        FinishError::LogFull => b"log full",
-        FinishError::NoMemory => b"no memory",
-    }
-}
-
-fn start_error_name(refused: StartError) -> &'static [u8]
-    ensures { result.now ≡ start_error_text refused }
-{
-    match refused {
-        StartError::NotAtRest => b"not at rest",
-        StartError::NotTaken => b"not taken",
-        StartError::LogFull => b"log full",
-        StartError::NoMemory => b"no memory",
-    }
-}
-
-fn advance_error_name(refused: AdvanceError) -> &'static [u8]
-    ensures { result.now ≡ advance_error_text refused }
-{
-    match refused {
-        AdvanceError::AtRest => b"at rest",
-        AdvanceError::StillActive => b"still active",
-        AdvanceError::NotScanned => b"not scanned",
-        AdvanceError::LogFull => b"log full",
-        AdvanceError::NoMemory => b"no memory",
-    }
-}
-
-fn capture_error_name(refused: CaptureError) -> &'static [u8]
-    ensures { result.now ≡ capture_error_text refused }
-{
-    match refused {
-        CaptureError::NotCapturing => b"not capturing",
-        CaptureError::NoMemory => b"no memory",
-    }
-}
-
-fn abandon_error_name(refused: AbandonError) -> &'static [u8]
-    ensures { result.now ≡ abandon_error_text refused }
-{
-    match refused {
-        AbandonError::NotAbandonable => b"not abandonable",
-        AbandonError::LogFull => b"log full",
-        AbandonError::NoMemory => b"no memory",
-    }
-}
-
 /// The line of a phase that was entered.
 fn push_phase<A: Allocator>(out: &mut Vec<u8, A>, phase: Phase) -> Result<(), NoMemory>
     ensures { OnOk result (out.new.items ≡ out.old.items ++ (codes "phase " ++ phase_text phase ++ codes "\n")) }
@@ -249,23 +166,23 @@ fn push_reply<A: Allocator + Clone>(out: &mut Vec<u8, A>, reply: &Reply<A>) -> R
             answer.outcome,
             answer.replies.as_slice(),
         ),
-        Reply::Begin(Err(refused)) => push_refusal(out, begin_error_name(*refused)),
-        Reply::Step(Err(refused)) => push_refusal(out, step_error_name(*refused)),
-        Reply::Finish(Err(refused)) => push_refusal(out, finish_error_name(*refused)),
-        Reply::GiveUp(Err(NotActive)) => push_refusal(out, b"not active"),
+        Reply::Begin(Err(refused)) => push_refusal(out, refused.name().as_bytes()),
+        Reply::Step(Err(refused)) => push_refusal(out, refused.name().as_bytes()),
+        Reply::Finish(Err(refused)) => push_refusal(out, refused.name().as_bytes()),
+        Reply::GiveUp(Err(refused)) => push_refusal(out, refused.name().as_bytes()),
         Reply::Start(Ok(number)) => push_numbered(out, b"checkpoint ", *number),
-        Reply::Start(Err(refused)) => push_refusal(out, start_error_name(*refused)),
+        Reply::Start(Err(refused)) => push_refusal(out, refused.name().as_bytes()),
         Reply::Advance(Ok(phase)) => push_phase(out, *phase),
-        Reply::Advance(Err(refused)) => push_refusal(out, advance_error_name(*refused)),
+        Reply::Advance(Err(refused)) => push_refusal(out, refused.name().as_bytes()),
         Reply::Capture(Ok(Captured::Slot)) => push_text(out, b"slot\n"),
         Reply::Capture(Ok(Captured::Done)) => push_text(out, b"done\n"),
-        Reply::Capture(Err(refused)) => push_refusal(out, capture_error_name(*refused)),
+        Reply::Capture(Err(refused)) => push_refusal(out, refused.name().as_bytes()),
         Reply::TakeImage(None) => push_text(out, b"none\n"),
         Reply::TakeImage(Some(image)) => push_image(out, image),
         Reply::Reclaim(None) => push_text(out, b"none\n"),
         Reply::Reclaim(Some(key)) => push_key(out, key.as_bytes()),
         Reply::Abandon(Ok(number)) => push_numbered(out, b"abandoned ", *number),
-        Reply::Abandon(Err(refused)) => push_refusal(out, abandon_error_name(*refused)),
+        Reply::Abandon(Err(refused)) => push_refusal(out, refused.name().as_bytes()),
     }
 }
 
@@ -319,7 +236,7 @@ fn answer<W: Write, A: Allocator + Clone>(
     }
     match write_out(writer, line.as_slice()) {
         Ok(()) => {}
-        Err(WriteError) => return Err(Fault::Write),
+        Err(WriteFault) => return Err(Fault::Write),
     }
     keep_image(images, shown);
     Ok(())

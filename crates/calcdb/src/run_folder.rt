@@ -1,10 +1,10 @@
 //! The folder of a run: the images and the log that are written at its end.
 
 ghost use Rattle.std.specs.Prelude.{◌≤◌, length};
-ghost use Rattle.commitlog.specs.declared.limits.TheConstants.{RECORDS};
+ghost use Rattle.commitlog.specs.declared.limits.TheConstants.{LOG_RECORDS};
 
 use crate::engine::Ran;
-use crate::failures::{Failure, OutFile, RunFile};
+use crate::faults::failures::{Failure, OutFile, RunFile};
 use crate::files::{create, flush, write_image, write_sealed};
 use commitlog::{LogHeader, Record, WriteError, encode_to};
 use image::Image;
@@ -61,7 +61,7 @@ fn write_log<'a, R: Files, A: Allocator + Copy>(
 ) -> Result<(), Failure<'a>>
 where
     R::File: Drop,
-    requires { length records.now ≤ RECORDS }
+    requires { length records.now ≤ LOG_RECORDS }
 {
     let file = OutFile::InFolder(folder, RunFile::Log);
     let Ok(mut writer) = BufWriter::new(alloc, create(alloc, rt, file)?) else {

@@ -4,16 +4,16 @@ ghost use Rattle.std.specs.Prelude.{◌≡◌, ◌⊎◌, ◌<◌, ◌≤◌, []
 ghost use Rattle.procedure.specs.declared.limits.TheConstants.{PROCEDURES};
 ghost use Rattle.calcdb.specs.Commands.{is_name};
 ghost use Rattle.calcdb.specs.Lines.{left_lines, lines, words};
-ghost use Rattle.calcdb.specs.Reads.{Gives};
+ghost use Rattle.calcdb.specs.Reads.{ReadsAs};
 ghost use Rattle.calcdb.specs.Scripts as spec;
-ghost use Rattle.calcdb.specs.Scripts.{Tells};
+ghost use Rattle.calcdb.specs.Scripts.{TellsScript};
 ghost use Rattle.procedure.specs.Catalogs.{procedure_fault};
 ghost use Rattle.calcdb.specs.declared.scripts.ScriptFault.TheVariants as fault;
 
 use crate::commands::{Arguments, Command, Names, command_of, is_name, number_of_name};
+use crate::faults::unread::Unread;
 use crate::instructions::{instruction_of, is_word};
 use crate::lines::{end_of, first_word, is_allowed, is_skipped, line_at, without_return, word_at};
-use crate::unread::Unread;
 use crate::values::decimal_of;
 use procedure::limits::{ARGUMENTS, INSTRUCTIONS, PROCEDURES};
 use procedure::{Catalog, Instr, Key, KeyMap, Procedure, Sequence, Value};
@@ -84,7 +84,7 @@ impl<A: Allocator + Clone> Block<A> {
     /// The block with the instruction that a line is.
     #[tactic(auto, unfolding(crate::specs::Scripts::longer_block))]
     fn with_line(self, line: &[u8]) -> Result<Self, Unread>
-        ensures { Gives (λ b. b) result (spec.longer_block self (words line.now)) }
+        ensures { ReadsAs (λ b. b) result (spec.longer_block self (words line.now)) }
     {
         let Block {
             line: first,
@@ -169,7 +169,7 @@ fn new_name<'a, A: Allocator>(
     names: &Names<A>,
     line: &'a [u8],
 ) -> Result<(&'a [u8], &'a [u8]), Unread>
-    ensures value { Gives (λ p. (p.0.now, words p.1.now)) result (spec.new_name names.now (words line.now)) }
+    ensures value { ReadsAs (λ p. (p.0.now, words p.1.now)) result (spec.new_name names.now (words line.now)) }
     ensures name { IfOk result (λ p. is_name p.0.now ≡ true) }
 {
     let (word, rest) = word_at(line)?;
@@ -183,7 +183,7 @@ fn new_name<'a, A: Allocator>(
 /// How many arguments, alone.
 #[tactic(auto, unfolding(crate::specs::Scripts::arity_of))]
 fn arity_of(line: &[u8]) -> Result<u8, Unread>
-    ensures value { Gives (λ n. n) result (spec.arity_of (words line.now)) }
+    ensures value { ReadsAs (λ n. n) result (spec.arity_of (words line.now)) }
     ensures fits { IfOk result (λ n. n ≤ 8) }
 {
     let (word, rest) = word_at(line)?;
@@ -195,7 +195,7 @@ fn arity_of(line: &[u8]) -> Result<u8, Unread>
 /// A new name, and how many arguments its procedure takes.
 #[tactic(auto, unfolding(crate::specs::Scripts::heading_of))]
 fn heading_of<A: Allocator>(names: &Names<A>, line: &[u8]) -> Result<(Key, u8), Unread>
-    ensures value { Gives (λ h. (h.0, h.1)) result (spec.heading_of names.now (words line.now)) }
+    ensures value { ReadsAs (λ h. (h.0, h.1)) result (spec.heading_of names.now (words line.now)) }
     ensures fits { IfOk result (λ h. h.1 ≤ 8) }
 {
     let (name, rest) = new_name(names, line)?;
@@ -223,10 +223,10 @@ impl<A: Allocator + Clone> Said<A> {
     }
 
     /// `proc` and what stands behind it, in this line.
-    #[tactic(auto, unfolding(crate::specs::Scripts::opened))]
+    #[tactic(auto, unfolding(crate::specs::Scripts::said_after_heading))]
     fn open_block(&mut self, number: u64, line: &[u8]) -> Result<(), Unread>
         requires { self.old.block ≡ None }
-        ensures { Gives (λ _. self.new) result (spec.opened self.old number (words line.now)) }
+        ensures { ReadsAs (λ _. self.new) result (spec.said_after_heading self.old number (words line.now)) }
     {
         let (name, arity) = heading_of(&self.names, line)?;
         if !self.commands.is_empty() || self.procedures.len() >= PROCEDURES {
@@ -239,7 +239,7 @@ impl<A: Allocator + Clone> Said<A> {
     }
 
     fn push_command(&mut self, line: &[u8]) -> Result<(), Unread>
-        ensures { Gives (λ _. self.new) result (spec.with_command self.old (words line.now)) }
+        ensures { ReadsAs (λ _. self.new) result (spec.with_command self.old (words line.now)) }
     {
         let alloc = self.allocator().clone()?;
         let command = command_of(alloc, &self.names, line)?;
@@ -251,7 +251,7 @@ impl<A: Allocator + Clone> Said<A> {
     #[tactic(auto, unfolding(crate::specs::Scripts::out_of_block))]
     fn read_out_of_block(&mut self, number: u64, line: &[u8]) -> Result<(), Unread>
         requires { self.old.block ≡ None }
-        ensures { Gives (λ _. self.new) result (spec.out_of_block self.old number (words line.now)) }
+        ensures { ReadsAs (λ _. self.new) result (spec.out_of_block self.old number (words line.now)) }
     {
         let (word, rest) = word_at(line)?;
         if is_word(word, b"proc") {
@@ -266,7 +266,7 @@ impl<A: Allocator + Clone> Said<A> {
     fn read_in_block(&mut self, block: Block<A>, line: &[u8]) -> Result<(), Unread>
         requires out { self.old.block ≡ None }
         requires room { length self.old.procedures < PROCEDURES }
-        ensures { Gives (λ _. self.new) result (spec.in_block self.old block (words line.now)) }
+        ensures { ReadsAs (λ _. self.new) result (spec.in_block self.old block (words line.now)) }
     {
         if ends_block(line) {
             self.procedures.push(block.into_procedure())?;
@@ -278,7 +278,7 @@ impl<A: Allocator + Clone> Said<A> {
 
     /// A line without a fault of its bytes.
     fn read_words(&mut self, number: u64, line: &[u8]) -> Result<(), Unread>
-        ensures { Gives (λ _. self.new) result (spec.after_words self.old number (words line.now)) }
+        ensures { ReadsAs (λ _. self.new) result (spec.said_after_words self.old number (words line.now)) }
     {
         if is_skipped(line) {
             return Ok(());
@@ -291,7 +291,7 @@ impl<A: Allocator + Clone> Said<A> {
 
     /// One line more.
     fn read_line(&mut self, number: u64, line: &[u8]) -> Result<(), Unread>
-        ensures { Gives (λ _. self.new) result (spec.after_line self.old number line.now) }
+        ensures { ReadsAs (λ _. self.new) result (spec.said_after_line self.old number line.now) }
     {
         if !is_allowed(line) {
             return Err(Unread::Faulty);
@@ -318,7 +318,7 @@ impl<A: Allocator + Clone> Said<A> {
 
     /// The script, where no block is open.
     fn into_script(self) -> Result<Script<A>, ScriptFault>
-        ensures { Tells (λ s. s) result (spec.whole self) }
+        ensures { TellsScript (λ s. s) result (spec.script_said self) }
     {
         let Said {
             names: _,
@@ -396,7 +396,7 @@ fn read_lines<A: Allocator + Clone>(
     text: &[u8],
 ) -> Result<Said<A>, ScriptFault>
     requires { length text.now ≤ SCRIPT_BYTES }
-    ensures ok { IfOk result (λ s. spec.said part spec.nothing_said 1 (lines text.now) ≡ spec.whole s) }
+    ensures ok { IfOk result (λ s. spec.said part spec.nothing_said 1 (lines text.now) ≡ spec.script_said s) }
     ensures err { IfErr result (λ e. (e ≡ fault.NoMemory) ⊎ (spec.said part spec.nothing_said 1 (lines text.now) ≡ Err e)) }
 {
     let mut said = Said::new(alloc)?;
@@ -431,7 +431,7 @@ fn read_part<A: Allocator + Clone>(
     part: Part,
     text: &[u8],
 ) -> Result<Script<A>, ScriptFault>
-    ensures { Tells (λ s. s) result (spec.part_of part text.now) }
+    ensures { TellsScript (λ s. s) result (spec.part_of part text.now) }
 {
     if text.len() > SCRIPT_BYTES {
         return Err(ScriptFault::Size);
@@ -446,7 +446,7 @@ pub(crate) fn read_script<A: Allocator + Clone>(
     alloc: A,
     text: &[u8],
 ) -> Result<Script<A>, ScriptFault>
-    ensures { Tells (λ s. s) result (spec.script_of text.now) }
+    ensures { TellsScript (λ s. s) result (spec.script_of text.now) }
 {
     read_part(alloc, Part::Whole, text)
 }
@@ -458,9 +458,9 @@ pub(crate) fn read_catalog<A: Allocator + Clone>(
     alloc: A,
     text: &[u8],
 ) -> Result<Catalog<A>, ScriptFault>
-    ensures value { Tells (λ c. c) result (spec.catalog_of text.now) }
+    ensures value { TellsScript (λ c. c) result (spec.catalog_of text.now) }
     // Of a script that can be run they are its procedures.
-    ensures script { (script : spec.Script) → spec.script_of text.now ≡ Ok script → Tells (λ c. c) result (Ok script.catalog) }
+    ensures script { (script : spec.Script) → spec.script_of text.now ≡ Ok script → TellsScript (λ c. c) result (Ok script.catalog) }
 {
     let Script {
         catalog,

@@ -7,14 +7,14 @@ ghost use Rattle.procedure.specs.Bytes.{Bytes};
 ghost use Rattle.commitlog.specs.Records.{Token, record_of};
 ghost use Rattle.calcdb.specs.Output.{entries_text, entry_text, image_text};
 ghost use Rattle.calcdb.specs.Showing as spec;
-ghost use Rattle.calcdb.specs.Showing.{Agrees, BeginsLog, EndsAs, IsShown, Prints, PrintsImage, PrintsLog, StopsIn, log_text};
+ghost use Rattle.calcdb.specs.Showing.{AgreesWithPrint, HasLogMagic, EndsShow, IsShown, Prints, PrintsImage, PrintsLog, StopsIn, log_text};
 ghost use Rattle.calcdb.specs.declared.faults.Reason.{Reason};
 
+use crate::faults::refusals::{refuse, say_no_memory, write_header, write_line};
 use crate::faults::{Fault, Reason};
 use crate::output::{
     phase_name, push_decimal, push_entry, push_outcome, push_replies, push_text, push_value,
 };
-use crate::refusals::{refuse, say_no_memory, write_header, write_line};
 use commitlog::{Ending, Entry as LogEntry, Record, Version, read_log};
 use image::{Entry, Image, read_image};
 use phase::Phase;
@@ -100,7 +100,7 @@ fn push_record<A: Allocator + Clone, B: Allocator>(
 
 /// How a log ends, to the end of its line.
 fn ending_words(ending: Ending) -> &'static [u8]
-    ensures { result.now ≡ spec.ending_text ending }
+    ensures { result.now ≡ spec.log_ending_text ending }
 {
     match ending {
         Ending::Clean => b" clean\n",
@@ -237,8 +237,8 @@ fn show_log<W: Write, A: Allocator + Copy>(
     writer: &mut W,
 ) -> Result<(), Fault>
     ensures text { OnOk result ((text : Bytes) × PrintsLog bytes.now (Ok text) × Appends (W.contents writer.old) (W.contents writer.new) text) }
-    ensures fault { IfErr result (λ f. EndsAs (PrintsLog bytes.now) (W.contents writer.old) (W.contents writer.new) f) }
-    ensures only { (says : Result Bytes Reason) → PrintsLog bytes.now says → Agrees result says (W.contents writer.old) (W.contents writer.new) }
+    ensures fault { IfErr result (λ f. EndsShow (PrintsLog bytes.now) (W.contents writer.old) (W.contents writer.new) f) }
+    ensures only { (says : Result Bytes Reason) → PrintsLog bytes.now says → AgreesWithPrint result says (W.contents writer.old) (W.contents writer.new) }
 {
     match read_log(alloc, bytes) {
         Ok(log) => write_log(alloc, writer, log.records.as_slice(), log.ending),
@@ -256,8 +256,8 @@ fn show_image<W: Write, A: Allocator + Copy>(
     writer: &mut W,
 ) -> Result<(), Fault>
     ensures text { OnOk result ((text : Bytes) × PrintsImage bytes.now (Ok text) × Appends (W.contents writer.old) (W.contents writer.new) text) }
-    ensures fault { IfErr result (λ f. EndsAs (PrintsImage bytes.now) (W.contents writer.old) (W.contents writer.new) f) }
-    ensures only { (says : Result Bytes Reason) → PrintsImage bytes.now says → Agrees result says (W.contents writer.old) (W.contents writer.new) }
+    ensures fault { IfErr result (λ f. EndsShow (PrintsImage bytes.now) (W.contents writer.old) (W.contents writer.new) f) }
+    ensures only { (says : Result Bytes Reason) → PrintsImage bytes.now says → AgreesWithPrint result says (W.contents writer.old) (W.contents writer.new) }
 {
     match read_image(alloc, bytes) {
         Ok(image) => write_image(alloc, writer, &image),
@@ -270,7 +270,7 @@ fn show_image<W: Write, A: Allocator + Copy>(
 
 /// Whether the letters of a log stand at the front, of either version.
 fn begins_log(bytes: &[u8]) -> bool
-    ensures { IsTrue result ↔ BeginsLog bytes.now }
+    ensures { IsTrue result ↔ HasLogMagic bytes.now }
 {
     bytes.starts_with(&Version::One.magic()) || bytes.starts_with(&Version::Two.magic())
 }
@@ -285,9 +285,9 @@ pub(crate) fn show<W: Write, A: Allocator + Copy>(
 ) -> Result<(), Fault>
     ensures text { OnOk result ((text : Bytes) × IsShown bytes.now text × Appends (W.contents writer.old) (W.contents writer.new) text) }
     // And else the one line of the fault, or a beginning of the text.
-    ensures fault { IfErr result (λ f. EndsAs (Prints bytes.now) (W.contents writer.old) (W.contents writer.new) f) }
+    ensures fault { IfErr result (λ f. EndsShow (Prints bytes.now) (W.contents writer.old) (W.contents writer.new) f) }
     // The bytes print nothing else.
-    ensures only { (says : Result Bytes Reason) → Prints bytes.now says → Agrees result says (W.contents writer.old) (W.contents writer.new) }
+    ensures only { (says : Result Bytes Reason) → Prints bytes.now says → AgreesWithPrint result says (W.contents writer.old) (W.contents writer.new) }
 {
     if begins_log(bytes) {
         show_log(alloc, bytes, writer)

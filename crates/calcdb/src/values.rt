@@ -1,15 +1,15 @@
 //! Decimals and values.
 
 ghost use Rattle.std.specs.Prelude.{◌≡◌, ◌≤◌, ◌+◌, ◌*◌, IfOk};
-ghost use Rattle.calcdb.specs.Reads.{Gives};
+ghost use Rattle.calcdb.specs.Reads.{ReadsAs};
 ghost use Rattle.calcdb.specs.Values as spec;
 
-use crate::unread::Unread;
+use crate::faults::unread::Unread;
 use byteorder::{BigEndian, ByteOrder};
 use std::alloc::Allocator;
 
 fn digit_of(byte: u8) -> Result<u64, Unread>
-    ensures { Gives (λ d. d) result (spec.digit_of byte) }
+    ensures { ReadsAs (λ d. d) result (spec.digit_of byte) }
 {
     match byte {
         b'0'..=b'9' => Ok(u64::from(byte - b'0')),
@@ -19,7 +19,7 @@ fn digit_of(byte: u8) -> Result<u64, Unread>
 
 /// A number with one digit more, unless it is too great.
 fn appended(most: u64, number: u64, digit: u64) -> Result<u64, Unread>
-    ensures { Gives (λ n. n) result (spec.at_most most (number * 10 + digit)) }
+    ensures { ReadsAs (λ n. n) result (spec.at_most most (number * 10 + digit)) }
 {
     match number.checked_mul(10) {
         Some(tenfold) => match tenfold.checked_add(digit) {
@@ -32,7 +32,7 @@ fn appended(most: u64, number: u64, digit: u64) -> Result<u64, Unread>
 
 /// The number of these digits, unless it is too great.
 fn number_of_digits(most: u64, digits: &[u8]) -> Result<u64, Unread>
-    ensures value { Gives (λ n. n) result (spec.number_of_digits most digits.now) }
+    ensures value { ReadsAs (λ n. n) result (spec.number_of_digits most digits.now) }
     ensures fits { IfOk result (λ n. n ≤ most) }
 {
     let mut number = 0u64;
@@ -45,7 +45,7 @@ fn number_of_digits(most: u64, digits: &[u8]) -> Result<u64, Unread>
 /// A decimal of one or more digits, at most so great.
 #[tactic(auto, unfolding(crate::specs::Values::decimal_of))]
 pub(crate) fn decimal_of(most: u64, word: &[u8]) -> Result<u64, Unread>
-    ensures value { Gives (λ n. n) result (spec.decimal_of most word.now) }
+    ensures value { ReadsAs (λ n. n) result (spec.decimal_of most word.now) }
     ensures fits { IfOk result (λ n. n ≤ most) }
 {
     if word.is_empty() {
@@ -55,9 +55,9 @@ pub(crate) fn decimal_of(most: u64, word: &[u8]) -> Result<u64, Unread>
 }
 
 /// The value of a number's digits.
-#[tactic(auto, unfolding(crate::specs::Values::number_of))]
+#[tactic(auto, unfolding(crate::specs::Values::number_value_of))]
 fn number_of<A: Allocator>(alloc: A, digits: &[u8]) -> Result<Vec<u8, A>, Unread>
-    ensures { Gives (λ v. v.items) result (spec.number_of digits.now) }
+    ensures { ReadsAs (λ v. v.items) result (spec.number_value_of digits.now) }
 {
     if digits.len() > 20 {
         return Err(Unread::Faulty);
@@ -70,7 +70,7 @@ fn number_of<A: Allocator>(alloc: A, digits: &[u8]) -> Result<Vec<u8, A>, Unread
 
 /// The value of hexadecimal digits.
 fn hex_of<A: Allocator>(alloc: A, digits: &[u8]) -> Result<Vec<u8, A>, Unread>
-    ensures { Gives (λ v. v.items) result (spec.hex_of digits.now) }
+    ensures { ReadsAs (λ v. v.items) result (spec.hex_of digits.now) }
 {
     match hex::decode(alloc, digits) {
         Ok(bytes) => Ok(bytes),
@@ -82,7 +82,7 @@ fn hex_of<A: Allocator>(alloc: A, digits: &[u8]) -> Result<Vec<u8, A>, Unread>
 /// The value that a word is.
 #[tactic(auto, unfolding(crate::specs::Values::value_of))]
 pub(crate) fn value_of<A: Allocator>(alloc: A, word: &[u8]) -> Result<Vec<u8, A>, Unread>
-    ensures { Gives (λ v. v.items) result (spec.value_of word.now) }
+    ensures { ReadsAs (λ v. v.items) result (spec.value_of word.now) }
 {
     match word {
         [b'#', digits @ ..] => number_of(alloc, digits),

@@ -10,19 +10,19 @@ use Rattle.commitlog.specs.declared.formats.LogHeader.{LogHeader}
 use Rattle.commitlog.specs.declared.decoding.Ending.{Ending}
 use Rattle.commitlog.specs.declared.decoding.LogError.{LogError}
 use Rattle.commitlog.specs.declared.decoding.LogError.TheVariants as refused
-use Rattle.commitlog.specs.LogBytes.{magic, header_bytes, first_digest, records_bytes, digest_after}
+use Rattle.commitlog.specs.LogBytes.{magic, log_header_bytes, first_digest, records_bytes, digest_after}
 use Rattle.commitlog.specs.LogReadings.{Fronts, EndsAfter, StopsAfter, IsDamage, IsHeader, Begins, Reading, Log, NotALog, Damaged, IsReading, IsAnswer, Tells, reading_of}
 use Rattle.commitlog.specs.declared.decoding.StoredLog.{StoredLog}
 use Rattle.commitlog.proofs.OneReadings.{one_reading}
 
 -- the first bytes are the header's
-pub header_is : (v : Version) (h : LogHeader) (bytes : Bytes) → take 8 bytes ≡ magic v → h.catalog ++ h.opening ≡ drop 8 (take 72 bytes) → header_bytes v h ≡ take 72 bytes
+pub header_is : (v : Version) (h : LogHeader) (bytes : Bytes) → take 8 bytes ≡ magic v → h.catalog ++ h.opening ≡ drop 8 (take 72 bytes) → log_header_bytes v h ≡ take 72 bytes
 header_is v h bytes letters digests =
     let front = take 72 bytes in
     let same : take 8 front ≡ magic v = take-take 8 72 bytes (omega arith) ∙ letters in
     ap (λ (x : Bytes). x ++ (h.catalog ++ h.opening)) (sym same) ∙ ap (λ (x : Bytes). take 8 front ++ x) digests ∙ take-append-drop 8 front
 
-pub begins : (v : Version) (h : LogHeader) (d : Bytes) (rs : List Record) (rest bytes : Bytes) → IsHeader h → header_bytes v h ≡ take 72 bytes → d ≡ sha256 (take 72 bytes) →
+pub begins : (v : Version) (h : LogHeader) (d : Bytes) (rs : List Record) (rest bytes : Bytes) → IsHeader h → log_header_bytes v h ≡ take 72 bytes → d ≡ sha256 (take 72 bytes) →
     Fronts v d rs rest (drop 72 bytes) → Begins v h rs rest bytes
 begins v h d rs rest bytes lengths front digest f =
     let first : d ≡ first_digest v h = digest ∙ ap sha256 (sym front) in
@@ -31,17 +31,17 @@ begins v h d rs rest bytes lengths front digest f =
       text =
           sym (take-append-drop 72 bytes)
           ∙ ap (λ (x : Bytes). x ++ drop 72 bytes) (sym front)
-          ∙ ap (λ (x : Bytes). header_bytes v h ++ x) (f.text ∙ ap (λ (x : Bytes). records_bytes x rs ++ rest) first)
-          ∙ sym (append_assoc (header_bytes v h) (records_bytes (first_digest v h) rs) rest);
+          ∙ ap (λ (x : Bytes). log_header_bytes v h ++ x) (f.text ∙ ap (λ (x : Bytes). records_bytes x rs ++ rest) first)
+          ∙ sym (append_assoc (log_header_bytes v h) (records_bytes (first_digest v h) rs) rest);
       records = f.records;
       count = f.count;
     }
 
-pub ends_so : (v : Version) (h : LogHeader) (d : Bytes) (rs : List Record) (e : Ending) (bytes : Bytes) → IsHeader h → header_bytes v h ≡ take 72 bytes → d ≡ sha256 (take 72 bytes) →
+pub ends_so : (v : Version) (h : LogHeader) (d : Bytes) (rs : List Record) (e : Ending) (bytes : Bytes) → IsHeader h → log_header_bytes v h ≡ take 72 bytes → d ≡ sha256 (take 72 bytes) →
     EndsAfter v d (drop 72 bytes) rs e → IsReading bytes (Log v h rs e)
 ends_so v h d rs e bytes lengths front digest told = (told.0, begins v h d rs told.0 bytes lengths front digest told.1, told.2)
 
-pub stops_so : (A : Type 0) (v : Version) (h : LogHeader) (d : Bytes) (e : LogError) (bytes : Bytes) → IsHeader h → header_bytes v h ≡ take 72 bytes → d ≡ sha256 (take 72 bytes) →
+pub stops_so : (A : Type 0) (v : Version) (h : LogHeader) (d : Bytes) (e : LogError) (bytes : Bytes) → IsHeader h → log_header_bytes v h ≡ take 72 bytes → d ≡ sha256 (take 72 bytes) →
     StopsAfter v d (drop 72 bytes) e → IsAnswer {A = A} bytes (Err e)
 stops_so A v h d refused.NotALog bytes lengths front digest told = absurd told.3
 stops_so A v h d refused.NoMemory bytes lengths front digest told = tt

@@ -191,7 +191,8 @@ values_bound : (v : Version) (xs : List Bytes) → AllByRecursion (IsValue v) xs
 values_bound v [] fits = omega arith
 values_bound v (x ∷ xs) fits =
     let h = values_bound v xs fits.1 in
-    let e : length (flat_map value_bytes (x ∷ xs)) ≡ length (value_bytes x) + length (flat_map value_bytes xs) = ap length (flat_map-cons value_bytes x xs) ∙ length-append (value_bytes x) (flat_map value_bytes xs) in
+    let e : length (flat_map value_bytes (x ∷ xs)) ≡ length (value_bytes x) + length (flat_map value_bytes xs) = ap length (flat_map-cons value_bytes x xs) ∙
+    length-append (value_bytes x) (flat_map value_bytes xs) in
     let small : length x ≤ greatest_value v = fits.0 in
     rw e (grind (arith, h, small))
 
@@ -203,7 +204,8 @@ replies_bound : (v : Version) (xs : List Cell) → AllByRecursion (IsReply v) xs
 replies_bound v [] fits = omega arith
 replies_bound v (x ∷ xs) fits =
     let h = replies_bound v xs fits.1 in
-    let e : length (flat_map reply_bytes (x ∷ xs)) ≡ length (reply_bytes x) + length (flat_map reply_bytes xs) = ap length (flat_map-cons reply_bytes x xs) ∙ length-append (reply_bytes x) (flat_map reply_bytes xs) in
+    let e : length (flat_map reply_bytes (x ∷ xs)) ≡ length (reply_bytes x) + length (flat_map reply_bytes xs) = ap length (flat_map-cons reply_bytes x xs) ∙
+    length-append (reply_bytes x) (flat_map reply_bytes xs) in
     let small = reply_bound v x fits.0 in
     rw e (grind (arith, h, small))
 

@@ -5,7 +5,7 @@ use Rattle.std.proofs.lemmas.List.{length-append, append-nil}
 use Rattle.procedure.specs.Bytes.{Bytes}
 use Rattle.commitlog.specs.Records.{Record}
 use Rattle.commitlog.specs.declared.formats.Version.{Version}
-use Rattle.commitlog.specs.declared.limits.TheConstants.{RECORDS}
+use Rattle.commitlog.specs.declared.limits.TheConstants.{LOG_RECORDS}
 use Rattle.commitlog.specs.LogBytes.{Fits, next_digest, record_bytes, records_bytes, digest_after}
 use Rattle.commitlog.specs.LogReadings.{Fronts}
 
@@ -24,7 +24,7 @@ pub fit_more : (v : Version) (rs : List Record) (r : Record) → AllByRecursion 
 fit_more v [] r fits one = (one, tt)
 fit_more v (x ∷ rs) r fits one = (fits.0, fit_more v rs r fits.1 one)
 
-pub fronts_more : (v : Version) (d : Bytes) (rs : List Record) (r : Record) (rest left all : Bytes) → Fronts v d rs rest all → length rs < RECORDS → Fits v r →
+pub fronts_more : (v : Version) (d : Bytes) (rs : List Record) (r : Record) (rest left all : Bytes) → Fronts v d rs rest all → length rs < LOG_RECORDS → Fits v r →
     rest ≡ record_bytes (digest_after d rs) r ++ left → Fronts v d (rs ++ r ∷ []) left all
 fronts_more v d rs r rest left all f room fits text = record {
   text =
@@ -36,7 +36,7 @@ fronts_more v d rs r rest left all f room fits text = record {
 }
 
 -- the same, where the digest is that of the last record
-pub goes_on : (v : Version) (d g : Bytes) (rs : List Record) (r : Record) (rest left all : Bytes) → Fronts v d rs rest all → g ≡ digest_after d rs → length rs < RECORDS → Fits v r →
+pub goes_on : (v : Version) (d g : Bytes) (rs : List Record) (r : Record) (rest left all : Bytes) → Fronts v d rs rest all → g ≡ digest_after d rs → length rs < LOG_RECORDS → Fits v r →
     rest ≡ record_bytes g r ++ left → Fronts v d (rs ++ r ∷ []) left all
 goes_on v d g rs r rest left all f same room fits text =
     fronts_more v d rs r rest left all f room fits (text ∙ ap (λ (x : Bytes). record_bytes x r ++ left) same)

@@ -45,7 +45,8 @@ found_in_front n (r ∷ l) m s = first (resolves n r) refl (found_in_front n l m
     later f (inl e) = absurd (true≢false (sym (own_resolve n) ∙ ap (resolves n) (sym e) ∙ f))
     later f (inr x) = x
 
-    first : (b : Bool) → resolves n r ≡ b → (Stands (Token Resolve n) l → Found) → (cond b 0 (suc (before_resolve n (l ++ m))) ≡ cond b 0 (suc (before_resolve n l))) × (cond b 0 (suc (before_resolve n l)) < suc (length l))
+    first : (b : Bool) → resolves n r ≡ b → (Stands (Token Resolve n) l → Found) → (cond b 0 (suc (before_resolve n (l ++ m))) ≡ cond b 0 (suc (before_resolve n l))) ×
+        (cond b 0 (suc (before_resolve n l)) < suc (length l))
     first true e ih = (refl, omega arith)
     first false e ih = let h = ih (later e s) in (ap suc h.0, let w = h.1 in omega arith)
 
@@ -95,5 +96,6 @@ keeps_cut c t l m n h =
       place = f.0;
       table = ap (after c t) (take-front l m n h);
       base = ap last_finished (take-front l m n h);
-      keys = λ i q w. ap (λ k. written_from c (after c t k) (slice_range (l ++ m) i (cut l n)) q) (take-append-le i l m (let x = f.1 in omega arith)) ∙ ap (λ k. written_from c (after c t (take i l)) k q) (range-front l m i (cut l n) w f.1);
+      keys = λ i q w. ap (λ k. written_from c (after c t k) (slice_range (l ++ m) i (cut l n)) q) (take-append-le i l m (let x = f.1 in omega arith)) ∙
+          ap (λ k. written_from c (after c t (take i l)) k q) (range-front l m i (cut l n) w f.1);
     }

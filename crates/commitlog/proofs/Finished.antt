@@ -38,7 +38,8 @@ Below p n f = f + running p ≤ n
 abbrev Running : List Record → Type 0
 Running l = IsCyclic l → Below (phase_of l) (number_of l) (last_finished l)
 
-below_more : (l : List Record) (r : Record) → FollowsAfter l r → Below (phase_of l) (number_of l) (last_finished l) → Below (phase_after (phase_of l) r) (number_after (number_of l) r) (finished_after (last_finished l) r)
+below_more : (l : List Record) (r : Record) → FollowsAfter l r → Below (phase_of l) (number_of l) (last_finished l) →
+    Below (phase_after (phase_of l) r) (number_after (number_of l) r) (finished_after (last_finished l) r)
 below_more l (Token q m) g b = below_token (phase_of l) q (number_of l) m (last_finished l) g b
 below_more l (Call s n p args o r) g b = b
 
@@ -139,7 +140,8 @@ resolved_token l p Prepare n m g e x = absurd (true≢false (sym e))
 resolved_token l _ Capture n m g e x = absurd g
 resolved_token l _ Complete n m g e x = absurd g
 
-resolved_after : (l : List Record) (r : Record) → FollowsAfter l r → (is_cut (phase_of l) ≡ true → Stands (Token Resolve (number_of l)) l) → is_cut (phase_after (phase_of l) r) ≡ true → Stands (Token Resolve (number_after (number_of l) r)) (l ++ r ∷ [])
+resolved_after : (l : List Record) (r : Record) → FollowsAfter l r → (is_cut (phase_of l) ≡ true → Stands (Token Resolve (number_of l)) l) → is_cut (phase_after (phase_of l) r) ≡ true →
+    Stands (Token Resolve (number_after (number_of l) r)) (l ++ r ∷ [])
 resolved_after l (Token q m) g x e = resolved_token l (phase_of l) q (number_of l) m g e x
 resolved_after l (Call s n p args o r) g x e = stands-left (Token Resolve (number_of l)) l _ (x e)
 

@@ -5,7 +5,7 @@ use Rattle.procedure.specs.Table.{Table, value_at}
 use Rattle.procedure.specs.Procedures.{Procedure}
 use Rattle.commitlog.specs.Records.{Record}
 use Rattle.commitlog.specs.Histories.{IsAnsweredAfter, RisesAfter, FollowsAfter, IsCyclic}
-use Rattle.commitlog.specs.Cuts.{Image, HasCut, cut, at_cut, written, in_full, in_partial, IsFullImage, IsPartialImage}
+use Rattle.commitlog.specs.Cuts.{CutImage, HasCut, cut, at_cut, written, in_full, in_partial, IsFullImage, IsPartialImage}
 use Rattle.commitlog.specs.Laws.{KeepsCut, KeepsImages, FrontsAreHistories, GrowByOne, SayByOne, LastIsGreatest}
 use Rattle.commitlog.proofs.Histories.{each-front, each-push, each-last, after-push, phase_of-push, number_of-push, last_number-push, last_finished-push}
 use Rattle.commitlog.proofs.Cuts.{keeps_cut}
@@ -43,7 +43,7 @@ say_by_one c t l r =
 pub last_is_greatest : LastIsGreatest
 last_is_greatest l c = (greatest l c, greatest_below l c)
 
-module _ (c : List Procedure) (t : Table) (l m : List Record) (i : Image) (cyclic : IsCyclic l) (h : HasCut l i.number) where
+module _ (c : List Procedure) (t : Table) (l m : List Record) (i : CutImage) (cyclic : IsCyclic l) (h : HasCut l i.number) where
   kept : KeepsCut c t l m i.number
   kept = keeps_cut c t l m i.number h
 
@@ -73,7 +73,8 @@ module _ (c : List Procedure) (t : Table) (l m : List Record) (i : Image) (cycli
         record {
           base = x.base ∙ sym kept.base;
           place = x.place ∙ sym kept.place;
-          entries = λ q. x.entries q ∙ ap (λ b. in_partial b (value_at (at_cut c t l i.number) q)) (written_same q) ∙ ap (λ (u : Table). in_partial (written c t (l ++ m) (cut (l ++ m) i.base) (cut (l ++ m) i.number) q) (value_at u q)) (sym kept.table);
+          entries = λ q. x.entries q ∙ ap (λ b. in_partial b (value_at (at_cut c t l i.number) q)) (written_same q) ∙
+              ap (λ (u : Table). in_partial (written c t (l ++ m) (cut (l ++ m) i.base) (cut (l ++ m) i.number) q) (value_at u q)) (sym kept.table);
         }
 
 pub keeps_images : KeepsImages

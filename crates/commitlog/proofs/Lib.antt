@@ -14,5 +14,4 @@ pub mod Wholes
 pub mod Chains
 pub mod Begins
 pub mod OneReadings
-pub mod Goings
 pub mod Arrivals

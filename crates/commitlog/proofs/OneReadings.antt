@@ -8,13 +8,13 @@ use Rattle.sha2.specs.Sha256.{sha256}
 use Rattle.sha2.proofs.Facts256.{length-sha256}
 use Rattle.procedure.specs.Bytes.{Bytes}
 use Rattle.commitlog.specs.Records.{Record}
-use Rattle.commitlog.specs.declared.limits.TheConstants.{RECORDS}
+use Rattle.commitlog.specs.declared.limits.TheConstants.{LOG_RECORDS}
 use Rattle.commitlog.specs.declared.formats.Version.{Version}
 use Rattle.commitlog.specs.declared.formats.Version.TheVariants.{One, Two}
 use Rattle.commitlog.specs.declared.formats.LogHeader.{LogHeader}
 use Rattle.commitlog.specs.declared.decoding.Ending.{Ending}
 use Rattle.commitlog.specs.declared.decoding.Ending.TheVariants.{Clean, Torn}
-use Rattle.commitlog.specs.LogBytes.{Fits, magic, body, greatest_body, header_bytes, first_digest, next_digest, record_bytes, records_bytes, digest_after, log_bytes}
+use Rattle.commitlog.specs.LogBytes.{Fits, magic, body, greatest_body, log_header_bytes, first_digest, next_digest, record_bytes, records_bytes, digest_after, log_bytes}
 use Rattle.commitlog.specs.LogReadings.{stated_length, stated_body, stated_digest, IsTorn, IsForeign, IsDamage, Ends, IsHeader, Begins, Log, NotALog, Damaged, IsReading, OneReading, IsReadAgain}
 use Rattle.commitlog.proofs.BodyLaws.{one_body, body_bound}
 
@@ -106,7 +106,7 @@ long_refuses v d rest long r left fits text =
     let a = at v d r left rest fits text in
     absurd (omega (arith, a.stated, long, body_bound v r fits))
 
-pub damage_refuses : (v : Version) (d : Bytes) (i : ℕ) (rest : Bytes) → IsDamage v d i rest → i < RECORDS → Refuses v d rest
+pub damage_refuses : (v : Version) (d : Bytes) (i : ℕ) (rest : Bytes) → IsDamage v d i rest → i < LOG_RECORDS → Refuses v d rest
 damage_refuses v d i rest damage room =
     elim damage.1 [
       | inl long ↦ long_refuses v d rest long
@@ -152,11 +152,11 @@ one_magic One Two e = absurd (omega (arith, ap (λ (x : Bytes). get_or x 7 0) e)
 one_magic Two One e = absurd (omega (arith, ap (λ (x : Bytes). get_or x 7 0) e))
 one_magic Two Two e = refl
 
-header_length : (v : Version) (h : LogHeader) → IsHeader h → length (header_bytes v h) ≡ 72
+header_length : (v : Version) (h : LogHeader) → IsHeader h → length (log_header_bytes v h) ≡ 72
 header_length v h lengths =
     omega (arith, length-append (magic v) (h.catalog ++ h.opening), length-append h.catalog h.opening, letters_length v, lengths.catalog, lengths.opening)
 
-one_header : (v w : Version) (h k : LogHeader) → IsHeader h → IsHeader k → header_bytes v h ≡ header_bytes w k → (v ≡ w) × (h ≡ k)
+one_header : (v w : Version) (h k : LogHeader) → IsHeader h → IsHeader k → log_header_bytes v h ≡ log_header_bytes w k → (v ≡ w) × (h ≡ k)
 one_header v w h k lengths lengths' e =
     let letters = same_front (magic v) (magic w) (h.catalog ++ h.opening) (k.catalog ++ k.opening) (letters_length v ∙ sym (letters_length w)) e in
     let digests = same_front h.catalog k.catalog h.opening k.opening (lengths.catalog ∙ sym lengths'.catalog) letters.1 in
@@ -166,11 +166,11 @@ one_header v w h k lengths lengths' e =
 
 -- nothing more is read after the records
 abbrev pub Stops : Version → LogHeader → List Record → Bytes → Type 0
-Stops v h rs rest = length rs < RECORDS → Refuses v (digest_after (first_digest v h) rs) rest
+Stops v h rs rest = length rs < LOG_RECORDS → Refuses v (digest_after (first_digest v h) rs) rest
 
 -- behind the header
-behind : (v : Version) (h : LogHeader) (rs : List Record) (rest text : Bytes) → Begins v h rs rest text → text ≡ header_bytes v h ++ (records_bytes (first_digest v h) rs ++ rest)
-behind v h rs rest text b = b.text ∙ append_assoc (header_bytes v h) (records_bytes (first_digest v h) rs) rest
+behind : (v : Version) (h : LogHeader) (rs : List Record) (rest text : Bytes) → Begins v h rs rest text → text ≡ log_header_bytes v h ++ (records_bytes (first_digest v h) rs ++ rest)
+behind v h rs rest text b = b.text ∙ append_assoc (log_header_bytes v h) (records_bytes (first_digest v h) rs) rest
 
 pub record OneLog (v w : Version) (h k : LogHeader) (rs ts : List Record) (x y : Bytes) : Type 0 where
   pub version : v ≡ w
@@ -182,15 +182,15 @@ same_header : (v : Version) (h : LogHeader) (rs ts : List Record) (x y text : By
     OneLog v v h h rs ts x y
 same_header v h rs ts x y text b b' stop stop' =
     let d = first_digest v h in
-    let e = append_cancel_left (header_bytes v h) (records_bytes d rs ++ x) (records_bytes d ts ++ y) (sym (behind v h rs x text b) ∙ behind v h ts y text b') in
-    let one = one_chain v RECORDS d rs ts x y b.records b'.records b.count b'.count stop stop' e in
+    let e = append_cancel_left (log_header_bytes v h) (records_bytes d rs ++ x) (records_bytes d ts ++ y) (sym (behind v h rs x text b) ∙ behind v h ts y text b') in
+    let one = one_chain v LOG_RECORDS d rs ts x y b.records b'.records b.count b'.count stop stop' e in
     record { version = refl; header = refl; records = one.0; rest = one.1 }
 
 one_log : (v w : Version) (h k : LogHeader) (rs ts : List Record) (x y text : Bytes) → Begins v h rs x text → Begins w k ts y text → Stops v h rs x → Stops w k ts y →
     OneLog v w h k rs ts x y
 one_log v w h k rs ts x y text b b' stop stop' =
     let lengths = header_length v h b.header ∙ sym (header_length w k b'.header) in
-    let split = same_front (header_bytes v h) (header_bytes w k) (records_bytes (first_digest v h) rs ++ x) (records_bytes (first_digest w k) ts ++ y) lengths
+    let split = same_front (log_header_bytes v h) (log_header_bytes w k) (records_bytes (first_digest v h) rs ++ x) (records_bytes (first_digest w k) ts ++ y) lengths
     (sym (behind v h rs x text b) ∙ behind w k ts y text b') in
     let same = one_header v w h k b.header b'.header split.0 in
     let c : Begins v h ts y text = subst (λ (u : Version). Begins u h ts y text) (sym same.0) (subst (λ (l : LogHeader). Begins w l ts y text) (sym same.1) b') in
@@ -222,7 +222,7 @@ no_log v h rs rest text b none =
     let e = behind v h rs rest text b in
     let after = records_bytes (first_digest v h) rs ++ rest in
     elim none [
-      | inl short ↦ absurd (omega (arith, ap length e, length-append (header_bytes v h) after, header_length v h b.header, short))
+      | inl short ↦ absurd (omega (arith, ap length e, length-append (log_header_bytes v h) after, header_length v h b.header, short))
       | inr other ↦ other v (ap (take 8) (e ∙ append_assoc (magic v) (h.catalog ++ h.opening) after) ∙ take_at (magic v) ((h.catalog ++ h.opening) ++ after) 8 (letters_length v))
     ]
 

@@ -68,7 +68,8 @@ at_most_none o i s m r e is = absurd (none_at i r e)
 at_most_last : (l : List Record) → AtMostLast l
 at_most_last l = by_end AtMostLast at_most_none at_most_more l
 
-pub numbers_rise : (l : List Record) → IsOrderly l → (i j s m n p q : ℕ) (a b : List Bytes) (o u : ℕ) (r v : List Cell) → i < j → slice_get l i ≡ Some (Call s m p a o r) → slice_get l j ≡ Some (Call s n q b u v) → m < n
+pub numbers_rise : (l : List Record) → IsOrderly l → (i j s m n p q : ℕ) (a b : List Bytes) (o u : ℕ) (r v : List Cell) → i < j → slice_get l i ≡ Some (Call s m p a o r) →
+    slice_get l j ≡ Some (Call s n q b u v) → m < n
 unfolding AtMostLast
 numbers_rise l h i j s m n p q a b o u r v w e f =
     rises (last_number s (take j l)) m n

@@ -80,7 +80,7 @@ written c t l i j q = written_from c (after c t (take i l)) (slice_range l i j) 
 
 -- an image as plain data: its number, that of the image on which it stands, its place in the log, and what the keys
 -- that it speaks of hold
-pub record Image : Type 0 where
+pub record CutImage : Type 0 where
   pub number : ℕ
   pub base : ℕ
   pub place : ℕ
@@ -97,14 +97,14 @@ in_partial true x = Some x
 in_partial false x = None
 
 -- the full image of its checkpoint: all that the table holds at the cut
-pub record IsFullImage (c : List Procedure) (t : Table) (l : List Record) (i : Image) : Type 0 where
+pub record IsFullImage (c : List Procedure) (t : Table) (l : List Record) (i : CutImage) : Type 0 where
   pub base : i.base ≡ i.number
   pub place : i.place ≡ cut l i.number
   pub entries : (q : Bytes) → change_at i.entries q ≡ in_full (value_at (at_cut c t l i.number) q)
 
 -- the partial image of its checkpoint: what the keys hold at the cut that were written since the cut of the checkpoint
 -- that was finished before
-pub record IsPartialImage (c : List Procedure) (t : Table) (l : List Record) (i : Image) : Type 0 where
+pub record IsPartialImage (c : List Procedure) (t : Table) (l : List Record) (i : CutImage) : Type 0 where
   pub base : i.base ≡ finished_below l i.number
   pub place : i.place ≡ cut l i.number
   pub entries :

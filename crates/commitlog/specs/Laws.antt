@@ -5,7 +5,7 @@ use Rattle.procedure.specs.Table.{Table}
 use Rattle.procedure.specs.Procedures.{Procedure}
 use Rattle.commitlog.specs.Records.{Record, Call}
 use Rattle.commitlog.specs.Histories.{after, table_after, IsAnsweredAfter, IsLegal, RisesAfter, IsOrderly, FollowsAfter, IsCyclic, phase_of, number_of, last_number, phase_after, number_after, answered_after}
-use Rattle.commitlog.specs.Cuts.{HasCut, IsFinished, cut, at_cut, last_finished, finished_below, finished_after, written, IsFullImage, IsPartialImage, Image}
+use Rattle.commitlog.specs.Cuts.{HasCut, IsFinished, cut, at_cut, last_finished, finished_below, finished_after, written, IsFullImage, IsPartialImage, CutImage}
 
 -- a longer log keeps the cut of each checkpoint that it had, the table there, and what was written before it
 pub record KeepsCut (c : List Procedure) (t : Table) (l m : List Record) (n : ℕ) : Type 0 where
@@ -20,12 +20,12 @@ abbrev pub KeepsCuts : Type 0
 KeepsCuts = (c : List Procedure) (t : Table) (l m : List Record) (n : ℕ) → HasCut l n → KeepsCut c t l m n
 
 -- an image of a history is one of each longer history
-pub record KeepsImage (c : List Procedure) (t : Table) (l m : List Record) (i : Image) : Type 0 where
+pub record KeepsImage (c : List Procedure) (t : Table) (l m : List Record) (i : CutImage) : Type 0 where
   pub full : IsFullImage c t l i → IsFullImage c t (l ++ m) i
   pub partial : IsPartialImage c t l i → IsPartialImage c t (l ++ m) i
 
 abbrev pub KeepsImages : Type 0
-KeepsImages = (c : List Procedure) (t : Table) (l m : List Record) (i : Image) → IsCyclic l → HasCut l i.number → KeepsImage c t l m i
+KeepsImages = (c : List Procedure) (t : Table) (l m : List Record) (i : CutImage) → IsCyclic l → HasCut l i.number → KeepsImage c t l m i
 
 -- a front of a history that is legal, orderly and cyclic is so too
 pub record FrontIsHistory (c : List Procedure) (t : Table) (l m : List Record) : Type 0 where

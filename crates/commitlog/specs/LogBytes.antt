@@ -11,7 +11,7 @@ use Rattle.commitlog.specs.Records.{Record, Token, Call, IsInRange}
 use Rattle.commitlog.specs.declared.formats.Version.{Version}
 use Rattle.commitlog.specs.declared.formats.Version.TheVariants.{One, Two}
 use Rattle.commitlog.specs.declared.formats.LogHeader.{LogHeader}
-use Rattle.commitlog.specs.declared.limits.TheConstants.{SMALL_VALUE_BYTES, BODY_BYTES, SMALL_BODY_BYTES}
+use Rattle.commitlog.specs.declared.limits.TheConstants.{VALUE_BYTES_V1, BODY_BYTES, BODY_BYTES_V1}
 
 -- the letters that a log begins with
 abbrev pub magic : Version → Bytes
@@ -20,12 +20,12 @@ magic Two = codes "CALCLOG2"
 
 -- the bytes of the longest argument or reply
 abbrev pub greatest_value : Version → ℕ
-greatest_value One = SMALL_VALUE_BYTES
+greatest_value One = VALUE_BYTES_V1
 greatest_value Two = VALUE_BYTES
 
 -- the bytes of the longest body
 abbrev pub greatest_body : Version → ℕ
-greatest_body One = SMALL_BODY_BYTES
+greatest_body One = BODY_BYTES_V1
 greatest_body Two = BODY_BYTES
 
 -- ---- the fields
@@ -103,12 +103,12 @@ abbrev pub digest_after : Bytes → List Record → Bytes
 digest_after d [] = d
 digest_after d (r ∷ rs) = digest_after (next_digest d r) rs
 
-abbrev pub header_bytes : Version → LogHeader → Bytes
-header_bytes v h = magic v ++ (h.catalog ++ h.opening)
+abbrev pub log_header_bytes : Version → LogHeader → Bytes
+log_header_bytes v h = magic v ++ (h.catalog ++ h.opening)
 
 -- the digests chain from that of the header
 abbrev pub first_digest : Version → LogHeader → Bytes
-first_digest v h = sha256 (header_bytes v h)
+first_digest v h = sha256 (log_header_bytes v h)
 
 abbrev pub log_bytes : Version → LogHeader → List Record → Bytes
-log_bytes v h rs = header_bytes v h ++ records_bytes (first_digest v h) rs
+log_bytes v h rs = log_header_bytes v h ++ records_bytes (first_digest v h) rs

@@ -7,7 +7,7 @@ use Rattle.sha2.specs.Sha256.{sha256}
 use Rattle.procedure.specs.Bytes.{Bytes}
 use Rattle.commitlog.specs.Records.{Record}
 use Rattle.commitlog.specs.LogBytes.{Fits, body, digest_after, first_digest, greatest_body, log_bytes, magic, next_digest, record_bytes, records_bytes}
-use Rattle.commitlog.specs.declared.limits.TheConstants.{RECORDS, HEADER_BYTES}
+use Rattle.commitlog.specs.declared.limits.TheConstants.{LOG_RECORDS, HEADER_BYTES}
 use Rattle.commitlog.specs.declared.formats.Version.{Version}
 use Rattle.commitlog.specs.declared.formats.LogHeader.{LogHeader}
 use Rattle.commitlog.specs.declared.decoding.Front.{Front}
@@ -57,7 +57,7 @@ IsForeign v d rest = IsNoRecord v d (stated_body rest) (stated_digest rest)
 
 -- a length over the greatest, or a whole record that is none behind the digest d, or whose place i is past the last
 abbrev pub IsDamage : Version → Bytes → ℕ → Bytes → Type 0
-IsDamage v d i rest = (4 ≤ length rest) × ((greatest_body v < stated_length rest) ⊎ (IsWhole rest × (IsForeign v d rest ⊎ (i ≡ RECORDS))))
+IsDamage v d i rest = (4 ≤ length rest) × ((greatest_body v < stated_length rest) ⊎ (IsWhole rest × (IsForeign v d rest ⊎ (i ≡ LOG_RECORDS))))
 
 abbrev pub Ends : Version → Bytes → Ending → Type 0
 Ends v rest Clean = rest ≡ []
@@ -74,7 +74,7 @@ IsFront v rest (front.Whole n) = (n ≡ stated_length rest) × (n ≤ greatest_b
 abbrev pub IsNext : {A : Type 0} → Version → Bytes → ℕ → Bytes → Next A → Type 0
 IsNext v d i rest (next.End e) = Ends v rest e
 IsNext v d i rest (next.Entry r after n) =
-    (i < RECORDS) × Fits v r × (after ≡ next_digest d r) × (rest ≡ record_bytes d r ++ drop n rest) × (n ≤ length rest) × (0 < n)
+    (i < LOG_RECORDS) × Fits v r × (after ≡ next_digest d r) × (rest ≡ record_bytes d r ++ drop n rest) × (n ≤ length rest) × (0 < n)
 
 -- why nothing more is read there
 abbrev pub IsStop : Version → Bytes → ℕ → Bytes → LogError → Type 0
@@ -86,7 +86,7 @@ IsStop v d i rest refused.NoMemory = Unit {0}
 pub record Fronts (v : Version) (d : Bytes) (rs : List Record) (rest all : Bytes) : Type 0 where
   pub text : all ≡ records_bytes d rs ++ rest
   pub records : AllByRecursion (Fits v) rs
-  pub count : length rs ≤ RECORDS
+  pub count : length rs ≤ LOG_RECORDS
 
 -- they end so after them
 abbrev pub EndsAfter : Version → Bytes → Bytes → List Record → Ending → Type 0
@@ -107,7 +107,7 @@ pub record Begins (v : Version) (h : LogHeader) (rs : List Record) (rest all : B
   pub header : IsHeader h
   pub text : all ≡ log_bytes v h rs ++ rest
   pub records : AllByRecursion (Fits v) rs
-  pub count : length rs ≤ RECORDS
+  pub count : length rs ≤ LOG_RECORDS
 
 pub data Reading : Type 0 where
   Log : Version → LogHeader → List Record → Ending → Reading
@@ -145,5 +145,5 @@ OneReading = (text : Bytes) (x y : Reading) → IsReading text x → IsReading t
 -- a log that is written has its records, and ends clean
 abbrev pub IsReadAgain : Type 0
 IsReadAgain =
-    (v : Version) (h : LogHeader) (rs : List Record) → IsHeader h → AllByRecursion (Fits v) rs → length rs ≤ RECORDS →
+    (v : Version) (h : LogHeader) (rs : List Record) → IsHeader h → AllByRecursion (Fits v) rs → length rs ≤ LOG_RECORDS →
     IsReading (log_bytes v h rs) (Log v h rs Clean)

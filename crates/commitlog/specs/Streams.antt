@@ -1,19 +1,13 @@
 -- A log that goes to a writer, or comes from a reader.
-use Rattle.std.specs.Prelude.{◌≡◌, ◌++◌, Option, Result, Ok, Err, codes}
-use Rattle.std.specs.Io.KnownBytes.{Appends, Consumes, IsAtEnd}
+use Rattle.std.specs.Prelude.{◌≡◌, Option, Result, Ok, Err, codes}
+use Rattle.std.specs.Io.KnownBytes.{Consumes, IsAtEnd}
 use Rattle.procedure.specs.Bytes.{Bytes}
 use Rattle.commitlog.specs.LogReadings.{Reading, NotALog, Damaged, IsReading, reading_of}
 use Rattle.commitlog.specs.LogTexts.{log_error_text}
 use Rattle.commitlog.specs.declared.decoding.StoredLog.{StoredLog}
 use Rattle.commitlog.specs.declared.decoding.LogError.TheVariants as refused
-use Rattle.commitlog.specs.declared.streams.WriteError.{WriteError}
-use Rattle.commitlog.specs.declared.streams.WriteError.TheVariants as write_refused
 use Rattle.commitlog.specs.declared.streams.ReadError.{ReadError}
 use Rattle.commitlog.specs.declared.streams.ReadError.TheVariants as read_refused
-
--- what went out is a beginning of the text
-abbrev pub IsBegun : Option Bytes → Option Bytes → Bytes → Type 0
-IsBegun old new text = (out : Bytes) × (left : Bytes) × (text ≡ out ++ left) × Appends old new out
 
 -- nothing was read to the end
 abbrev pub IsUnread : ReadError → Type 0
@@ -43,10 +37,6 @@ TellsFrom (Err (read_refused.Log (refused.Damaged i))) r = r ≡ Damaged i
 TellsFrom (Err (read_refused.Log refused.NoMemory)) r = Unit {0}
 
 -- what is printed of a refusal
-abbrev pub write_error_text : WriteError → Bytes
-write_error_text write_refused.WriteFault = codes "write fault"
-write_error_text write_refused.NoMemory = codes "no memory"
-
-abbrev pub read_error_text : ReadError → Bytes
-read_error_text read_refused.ReadFault = codes "read fault"
-read_error_text (read_refused.Log e) = log_error_text e
+abbrev pub log_read_error_text : ReadError → Bytes
+log_read_error_text read_refused.ReadFault = codes "read fault"
+log_read_error_text (read_refused.Log e) = log_error_text e

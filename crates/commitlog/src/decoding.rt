@@ -4,19 +4,19 @@ ghost use Rattle.std.specs.Prelude.{◌≡◌, ◌≤◌, ◌<◌, ◌+◌, ◌+
 ghost use Rattle.sha2.specs.Sha256.{sha256};
 ghost use Rattle.commitlog.specs.LogBytes.{Fits, body, magic, next_digest, record_bytes};
 ghost use Rattle.commitlog.specs.LogReadings.{Damaged, EndsAfter, IsAnswer, IsForeign, IsFront, IsHeader, IsNext, IsNoRecord, IsReading, IsStop, IsWhole, Log, NotALog, Reading, StopsAfter, Tells, after_record, reading_of, stated_length};
-ghost use Rattle.commitlog.specs.declared.limits.TheConstants.{RECORDS};
+ghost use Rattle.commitlog.specs.declared.limits.TheConstants.{LOG_RECORDS};
 ghost use Rattle.commitlog.specs.declared.formats.Version.{Version};
 ghost use Rattle.commitlog.specs.declared.decoding.LogError.TheVariants as refused;
 ghost use Rattle.commitlog.specs.declared.decoding.Next.TheVariants as next;
 ghost use Rattle.commitlog.specs.declared.bodies.BodyError.TheVariants as errors;
 
 use crate::bodies::{BodyError, record_of_body};
-use crate::encoding::link;
 use crate::formats::{LogHeader, Version};
-use crate::limits::{HEADER_BYTES, RECORDS};
+use crate::limits::{HEADER_BYTES, LOG_RECORDS};
 use crate::records::Record;
 use byteorder::{BigEndian, ByteOrder};
 use procedure::Sequence;
+use procedure::bytes::chained_digest;
 use sha2::{Digest, Sha256};
 use std::alloc::{AllocError, AllocFailed, Allocator};
 use std::error::Error;
@@ -136,7 +136,7 @@ fn record_behind<A: Allocator + Clone>(
     ensures given { IfOk result (λ x. x.1 ≡ given.now) }
     ensures malformed { result ≡ Err errors.Malformed → IsNoRecord version digest.now text.now given.now }
 {
-    let digest = link(digest, text);
+    let digest = chained_digest(digest, text);
     if digest.as_slice() != given {
         return Err(BodyError::Malformed);
     }
@@ -194,7 +194,7 @@ fn next_of<A: Allocator + Clone>(
     place: usize,
     bytes: &[u8],
 ) -> Result<Next<A>, LogError>
-    requires { place ≤ RECORDS }
+    requires { place ≤ LOG_RECORDS }
     ensures next { IfOk result (λ next. IsNext version digest.now place bytes.now next) }
     ensures err { IfErr result (λ e. IsStop version digest.now place bytes.now e) }
 {
@@ -203,7 +203,7 @@ fn next_of<A: Allocator + Clone>(
         Front::Torn => Ok(Next::End(Ending::Torn)),
         Front::TooLong => Err(LogError::Damaged(place)),
         Front::Whole(stated) => {
-            if place == RECORDS {
+            if place == LOG_RECORDS {
                 return Err(LogError::Damaged(place));
             }
             match whole_record(alloc, version, digest, bytes, stated) {

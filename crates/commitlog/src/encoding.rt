@@ -4,18 +4,18 @@ ghost use Rattle.std.specs.Prelude.{◌≡◌, ◌≢◌, Err, ◌*◌, ◌≤�
 ghost use Rattle.std.specs.List.{AllByRecursion, flat_map};
 ghost use Rattle.byteorder.specs.Endian.{big_bytes};
 ghost use Rattle.procedure.specs.declared.limits.TheConstants.{ARGUMENTS};
-ghost use Rattle.commitlog.specs.declared.limits.TheConstants.{BODY_BYTES, RECORDS, REPLIES};
+ghost use Rattle.commitlog.specs.declared.limits.TheConstants.{BODY_BYTES, LOG_RECORDS, REPLIES};
 ghost use Rattle.commitlog.specs.declared.formats.Version.TheVariants.{One, Two};
 ghost use Rattle.sha2.specs.Sha256.{sha256};
 ghost use Rattle.commitlog.specs.Records.{IsInRange, Token, call_of};
 ghost use Rattle.commitlog.specs.declared.encoding.EncodeError.TheVariants as refused;
-ghost use Rattle.commitlog.specs.LogBytes.{Fits, IsReply, IsValue, IsWithin, answer_bytes, arguments_bytes, body, call_head, first_digest, header_bytes, log_bytes, next_digest, phase_code, record_bytes, records_bytes, reply_bytes, value_bytes};
+ghost use Rattle.commitlog.specs.LogBytes.{Fits, IsReply, IsValue, IsWithin, answer_bytes, arguments_bytes, body, call_head, first_digest, log_header_bytes, log_bytes, next_digest, phase_code, record_bytes, records_bytes, reply_bytes, value_bytes};
 
 use crate::formats::{LogHeader, Version};
-use crate::limits::SMALL_VALUE_BYTES;
+use crate::limits::VALUE_BYTES_V1;
 use crate::records::{Entry, Record};
-use byteorder::{BigEndian, ByteOrder};
 use phase::Phase;
+use procedure::bytes::{chained_digest, write_u16, write_u32, write_u64};
 use procedure::{Call, NoMemory, Sequence, Value};
 use sha2::{Digest, Sha256};
 use std::alloc::{AllocError, AllocFailed, Allocator};
@@ -55,33 +55,6 @@ impl From<NoMemory> for EncodeError {
     fn from(_refused: NoMemory) -> Self {
         EncodeError::NoMemory
     }
-}
-
-fn write_u16<A: Allocator>(out: &mut Vec<u8, A>, number: u16) -> Result<(), NoMemory>
-    ensures { OnOk result (out.new.items ≡ out.old.items ++ big_bytes 2 number) }
-{
-    let mut bytes = [0u8; 2];
-    BigEndian::write_u16(&mut bytes, number);
-    out.extend_from_slice(&bytes)?;
-    Ok(())
-}
-
-fn write_u32<A: Allocator>(out: &mut Vec<u8, A>, number: u32) -> Result<(), NoMemory>
-    ensures { OnOk result (out.new.items ≡ out.old.items ++ big_bytes 4 number) }
-{
-    let mut bytes = [0u8; 4];
-    BigEndian::write_u32(&mut bytes, number);
-    out.extend_from_slice(&bytes)?;
-    Ok(())
-}
-
-fn write_u64<A: Allocator>(out: &mut Vec<u8, A>, number: u64) -> Result<(), NoMemory>
-    ensures { OnOk result (out.new.items ≡ out.old.items ++ big_bytes 8 number) }
-{
-    let mut bytes = [0u8; 8];
-    BigEndian::write_u64(&mut bytes, number);
-    out.extend_from_slice(&bytes)?;
-    Ok(())
 }
 
 fn phase_code(phase: Phase) -> u8
@@ -266,6 +239,7 @@ fn body_length<A: Allocator>(record: &Record<A>) -> usize
 {
     match record.entry() {
         Entry::Token { number, .. } => {
+            // Read, it is known to be below 2^64, as its 8 bytes need.
             let _number = *number;
             10
         }
@@ -284,18 +258,9 @@ fn call_length<A: Allocator>(call: &Call<A>, outcome: u8, replies: &[Option<Valu
     ensures fits { IsWithin Two (call_of call.now outcome replies.now) }
     ensures most { result ≤ BODY_BYTES }
 {
+    // Read, it is known to be below 2^64, as its 8 bytes need.
     let _number = call.number;
     16 + values_length(call.args.as_slice()) + replies_length(replies)
-}
-
-/// The digest of a chain with one body more.
-pub(crate) fn link(digest: &[u8; 32], body: &[u8]) -> [u8; 32]
-    ensures { result ≡ sha256 (digest.now ++ body.now) }
-{
-    let mut hasher = Sha256::new();
-    hasher.update(digest.as_slice());
-    hasher.update(body);
-    hasher.finalize()
 }
 
 /// Writes a record behind the digest of those before it, and answers its own. Room is made before.
@@ -313,7 +278,7 @@ pub(crate) fn write_record<A: Allocator>(
     write_u32(out, length as u32)?;
     let start = out.len();
     write_body(out, record)?;
-    let digest = link(digest, &out[start..]);
+    let digest = chained_digest(digest, &out[start..]);
     out.extend_from_slice(&digest)?;
     Ok(digest)
 }
@@ -338,7 +303,7 @@ pub(crate) fn write_header<A: Allocator>(
     version: Version,
     header: &LogHeader,
 ) -> Result<(), NoMemory>
-    ensures { OnOk result (out.new.items ≡ out.old.items ++ header_bytes version header.now) }
+    ensures { OnOk result (out.new.items ≡ out.old.items ++ log_header_bytes version header.now) }
 {
     out.extend_from_slice(&version.magic())?;
     out.extend_from_slice(&header.catalog)?;
@@ -366,7 +331,7 @@ fn are_small<A: Allocator>(values: &[Value<A>]) -> bool
     ensures { IsTrue result ↔ AllByRecursion (IsValue One) values.now }
 {
     for value in values {
-        if value.as_bytes().len() > SMALL_VALUE_BYTES {
+        if value.as_bytes().len() > VALUE_BYTES_V1 {
             return false;
         }
     }
@@ -378,7 +343,7 @@ fn is_small_reply<A: Allocator>(reply: &Option<Value<A>>) -> bool
 {
     match reply {
         None => true,
-        Some(value) => value.as_bytes().len() <= SMALL_VALUE_BYTES,
+        Some(value) => value.as_bytes().len() <= VALUE_BYTES_V1,
     }
 }
 
@@ -399,6 +364,7 @@ fn is_small<A: Allocator>(record: &Record<A>) -> bool
 {
     match record.entry() {
         Entry::Token { number, .. } => {
+            // Read, it is known to be below 2^64, as its 8 bytes need.
             let _number = *number;
             true
         }
@@ -431,7 +397,7 @@ pub fn encode<A: Allocator>(
     header: &LogHeader,
     records: &[Record<A>],
 ) -> Result<Sequence<u8, A>, NoMemory>
-    requires { length records.now ≤ RECORDS }
+    requires { length records.now ≤ LOG_RECORDS }
     ensures bytes { IfOk result (λ bytes. bytes ≡ log_bytes Two header.now records.now) }
     ensures fits { OnOk result (AllByRecursion (Fits Two) records.now) }
 {
@@ -444,7 +410,7 @@ pub fn encode_v1<A: Allocator>(
     header: &LogHeader,
     records: &[Record<A>],
 ) -> Result<Sequence<u8, A>, EncodeError>
-    requires { length records.now ≤ RECORDS }
+    requires { length records.now ≤ LOG_RECORDS }
     ensures bytes { IfOk result (λ bytes. bytes ≡ log_bytes One header.now records.now) }
     ensures too_large { result ≡ Err refused.TooLarge → AllByRecursion (Fits One) records.now → ⊥ }
     ensures fits { result ≢ Err refused.TooLarge → AllByRecursion (Fits One) records.now }

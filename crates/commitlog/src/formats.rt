@@ -3,7 +3,7 @@
 ghost use Rattle.std.specs.Prelude.{◌≡◌};
 ghost use Rattle.commitlog.specs.LogBytes.{greatest_body, greatest_value, magic};
 
-use crate::limits::{BODY_BYTES, SMALL_BODY_BYTES, SMALL_VALUE_BYTES};
+use crate::limits::{BODY_BYTES, BODY_BYTES_V1, VALUE_BYTES_V1};
 use procedure::limits::VALUE_BYTES;
 
 /// The versions. They differ in the letters that a log begins with and in the bytes of the longest
@@ -32,7 +32,7 @@ impl Version {
         ensures { result ≡ greatest_value self }
     {
         match self {
-            Version::One => SMALL_VALUE_BYTES,
+            Version::One => VALUE_BYTES_V1,
             Version::Two => VALUE_BYTES,
         }
     }
@@ -42,7 +42,7 @@ impl Version {
         ensures { result ≡ greatest_body self }
     {
         match self {
-            Version::One => SMALL_BODY_BYTES,
+            Version::One => BODY_BYTES_V1,
             Version::Two => BODY_BYTES,
         }
     }

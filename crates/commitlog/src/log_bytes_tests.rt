@@ -153,7 +153,7 @@ fn two_calls(alloc: Global) -> Result<Vec<Record<Global>>, Fail> {
 }
 
 fn written(alloc: Global, records: &[Record<Global>]) -> Result<Sequence<u8, Global>, Fail> {
-    if records.len() > limits::RECORDS {
+    if records.len() > limits::LOG_RECORDS {
         return Err("too many".into());
     }
     Ok(encode(alloc, &HEADER, records)?)
@@ -163,7 +163,7 @@ fn written_v1(
     alloc: Global,
     records: &[Record<Global>],
 ) -> Result<Result<Sequence<u8, Global>, EncodeError>, Fail> {
-    if records.len() > limits::RECORDS {
+    if records.len() > limits::LOG_RECORDS {
         return Err("too many".into());
     }
     Ok(encode_v1(alloc, &HEADER, records))

@@ -1,10 +1,10 @@
 //! The log in memory.
 
 ghost use Rattle.std.specs.Prelude.{◌≡◌, ◌≢◌, ◌≤◌, ◌<◌, ◌↔◌, [], ◌∷◌, ◌++◌, Err, IsOk, IsSome, IsTrue, OnErr, OnOk, codes, length, option_copied, slice_get, Some};
-ghost use Rattle.commitlog.specs.declared.limits.TheConstants.{RECORDS};
+ghost use Rattle.commitlog.specs.declared.limits.TheConstants.{LOG_RECORDS};
 ghost use Rattle.commitlog.specs.declared.logs.PushError.TheVariants as refused;
 
-use crate::limits::RECORDS;
+use crate::limits::LOG_RECORDS;
 use crate::records::Record;
 use procedure::NoMemory;
 use std::alloc::Allocator;
@@ -45,13 +45,13 @@ pub struct Log<A: Allocator> {
 impl<A: Allocator> Model for Log<A> {
     ghost use Rattle.std.specs.Prelude.{◌≤◌, ◌-◌, length, vec_capacity, vec_len};
     ghost use Rattle.commitlog.specs.Logs.{Log};
-    ghost use Rattle.commitlog.specs.declared.limits.TheConstants.{RECORDS};
+    ghost use Rattle.commitlog.specs.declared.limits.TheConstants.{LOG_RECORDS};
 
     ghost Value = { Log };
 
     ghost view = { λ l. record { records = l.records.items; room = vec_capacity l.records - vec_len l.records } };
 
-    ghost invariant = { λ l. vec_len l.records ≤ RECORDS };
+    ghost invariant = { λ l. vec_len l.records ≤ LOG_RECORDS };
 }
 
 impl<A: Allocator> Log<A> {
@@ -78,11 +78,11 @@ impl<A: Allocator> Log<A> {
 
     /// Whether there are 1,000,000 records, so that no other is taken.
     pub fn is_full(&self) -> bool
-        ensures value { IsTrue result ↔ (length self.now.records ≡ RECORDS) }
-        ensures most { length self.now.records ≤ RECORDS }
+        ensures value { IsTrue result ↔ (length self.now.records ≡ LOG_RECORDS) }
+        ensures most { length self.now.records ≤ LOG_RECORDS }
     {
         let count = self.records.len();
-        count == RECORDS
+        count == LOG_RECORDS
     }
 
     /// The record at a place, counted from 0, if there is one.
@@ -96,7 +96,7 @@ impl<A: Allocator> Log<A> {
     /// The records, the oldest first.
     pub fn records(&self) -> &[Record<A>]
         ensures value { result.now ≡ self.now.records }
-        ensures most { length self.now.records ≤ RECORDS }
+        ensures most { length self.now.records ≤ LOG_RECORDS }
     {
         self.records.as_slice()
     }
@@ -117,7 +117,7 @@ impl<A: Allocator> Log<A> {
     pub fn push(&mut self, added: Record<A>) -> Result<(), PushError>
         ensures ok { OnOk result (self.new.records ≡ self.old.records ++ added ∷ []) }
         ensures err { OnErr result (self.new.records ≡ self.old.records) }
-        ensures full { (result ≡ Err refused.LogFull) ↔ (length self.old.records ≡ RECORDS) }
+        ensures full { (result ≡ Err refused.LogFull) ↔ (length self.old.records ≡ LOG_RECORDS) }
         ensures memory { 1 ≤ self.old.room → result ≢ Err refused.NoMemory }
     {
         if self.is_full() {

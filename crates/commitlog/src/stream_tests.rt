@@ -67,7 +67,7 @@ fn three_tokens(alloc: Global) -> Result<Vec<Record<Global>>, Fail> {
 
 fn encoded(alloc: Global) -> Result<Sequence<u8, Global>, Fail> {
     let records = three_tokens(alloc)?;
-    if records.len() > limits::RECORDS {
+    if records.len() > limits::LOG_RECORDS {
         return Err("too many".into());
     }
     Ok(encode(alloc, &HEADER, &records)?)
@@ -80,7 +80,7 @@ fn sent(
     calls: usize,
 ) -> Result<(Vec<u8, Global>, Option<WriteError>), Fail> {
     let records = three_tokens(alloc)?;
-    if records.len() > limits::RECORDS {
+    if records.len() > limits::LOG_RECORDS {
         return Err("too many".into());
     }
     let mut sink = Sink {

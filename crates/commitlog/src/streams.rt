@@ -2,61 +2,28 @@
 
 ghost use Rattle.std.specs.Prelude.{◌≡◌, ◌≤◌, ℕ, Err, IfErr, IfOk, Some, OnErr, OnOk, length};
 ghost use Rattle.std.specs.Io.KnownBytes.{Appends, Consumes, IsAtEnd};
-ghost use Rattle.commitlog.specs.declared.limits.TheConstants.{RECORDS};
+ghost use Rattle.commitlog.specs.declared.limits.TheConstants.{LOG_RECORDS};
 ghost use Rattle.commitlog.specs.declared.formats.Version.TheVariants.{Two};
-ghost use Rattle.commitlog.specs.declared.streams.WriteError.TheVariants as write_refused;
+ghost use Rattle.procedure.specs.declared.streams.WriteError.TheVariants as write_refused;
 ghost use Rattle.commitlog.specs.LogBytes.{log_bytes, next_digest, record_bytes, records_bytes};
 ghost use Rattle.procedure.specs.Bytes.{Bytes};
 ghost use Rattle.commitlog.specs.LogReadings.{Damaged, IsReading, NotALog, Reading, reading_of};
 ghost use Rattle.commitlog.specs.declared.decoding.LogError.TheVariants as refused;
 ghost use Rattle.commitlog.specs.declared.streams.ReadError.TheVariants as read_refused;
-ghost use Rattle.commitlog.specs.Streams.{IsAnswerFrom, IsBegun, IsUnread, ReadsAs, TellsFrom};
+ghost use Rattle.procedure.specs.Streams.{IsBegun};
+ghost use Rattle.commitlog.specs.Streams.{IsAnswerFrom, IsUnread, ReadsAs, TellsFrom};
 
 use crate::decoding::{LogError, StoredLog, read_whole};
 use crate::encoding::{write_header, write_record};
 use crate::formats::{LogHeader, Version};
 use crate::records::Record;
-use procedure::NoMemory;
+pub use procedure::streams::WriteError;
+use procedure::streams::{Unread, read_all, write_out};
 use sha2::{Digest, Sha256};
 use std::alloc::{AllocError, Allocator};
 use std::error::Error;
 use std::fmt;
 use std::io::{Read, Write};
-
-/// Why a log isn't written whole.
-#[derive(Clone, Copy, Debug, PartialEq, Eq)]
-pub enum WriteError {
-    /// A write failed, or took no byte.
-    WriteFault,
-    NoMemory,
-}
-
-impl fmt::Display for WriteError {
-    ghost use Rattle.std.specs.Prelude.{Some};
-    ghost use Rattle.commitlog.specs.Streams.{write_error_text};
-
-    ghost output = { λ e. Some (write_error_text e) };
-
-    fn fmt<W: fmt::Write>(&self, f: &mut fmt::Formatter<W>) -> fmt::Result {
-        f.write_str(match self {
-            WriteError::WriteFault => "write fault",
-            WriteError::NoMemory => "no memory",
-        })
-    }
-}
-
-impl Error for WriteError {}
-
-impl From<NoMemory> for WriteError {
-    ghost use Rattle.std.specs.Prelude.{◌≡◌};
-    ghost use Rattle.commitlog.specs.declared.streams.WriteError.TheVariants as write_refused;
-
-    ghost from_gives = { λ _ e. e ≡ write_refused.NoMemory };
-
-    fn from(_refused: NoMemory) -> Self {
-        WriteError::NoMemory
-    }
-}
 
 /// Why a log isn't read.
 #[derive(Clone, Copy, Debug, PartialEq, Eq)]
@@ -69,9 +36,9 @@ pub enum ReadError {
 
 impl fmt::Display for ReadError {
     ghost use Rattle.std.specs.Prelude.{Some};
-    ghost use Rattle.commitlog.specs.Streams.{read_error_text};
+    ghost use Rattle.commitlog.specs.Streams.{log_read_error_text};
 
-    ghost output = { λ e. Some (read_error_text e) };
+    ghost output = { λ e. Some (log_read_error_text e) };
 
     fn fmt<W: fmt::Write>(&self, f: &mut fmt::Formatter<W>) -> fmt::Result {
         match self {
@@ -83,6 +50,19 @@ impl fmt::Display for ReadError {
 
 impl Error for ReadError {}
 
+impl From<Unread> for ReadError {
+    ghost use Rattle.commitlog.specs.Streams.{IsUnread};
+
+    ghost from_gives = { λ _ e. IsUnread e };
+
+    fn from(unread: Unread) -> Self {
+        match unread {
+            Unread::ReadFault => ReadError::ReadFault,
+            Unread::NoMemory => ReadError::Log(LogError::NoMemory),
+        }
+    }
+}
+
 impl From<AllocError> for ReadError {
     ghost use Rattle.std.specs.Prelude.{◌≡◌};
     ghost use Rattle.commitlog.specs.declared.decoding.LogError.TheVariants as refused;
@@ -93,26 +73,6 @@ impl From<AllocError> for ReadError {
     fn from(_refused: AllocError) -> Self {
         ReadError::Log(LogError::NoMemory)
     }
-}
-
-/// Writes all of the bytes; the first write that fails ends it, an interrupted one too.
-fn write_out<W: Write>(writer: &mut W, bytes: &[u8]) -> Result<(), WriteError>
-    ensures ok { OnOk result (Appends (W.contents writer.old) (W.contents writer.new) bytes.now) }
-    ensures err { OnErr result (IsBegun (W.contents writer.old) (W.contents writer.new) bytes.now) }
-{
-    let mut rest = bytes;
-    while !rest.is_empty() {
-        let taken = match writer.write(rest) {
-            Ok(taken) => taken,
-            Err(_) => return Err(WriteError::WriteFault),
-        };
-        if taken == 0 {
-            return Err(WriteError::WriteFault);
-        }
-        let (_taken, left) = rest.split_at(taken);
-        rest = left;
-    }
-    Ok(())
 }
 
 /// Writes a record by way of the buffer, and answers its digest.
@@ -156,7 +116,7 @@ pub fn encode_to<W: Write, A: Allocator>(
     header: &LogHeader,
     records: &[Record<A>],
 ) -> Result<(), WriteError>
-    requires { length records.now ≤ RECORDS }
+    requires { length records.now ≤ LOG_RECORDS }
     ensures ok { OnOk result (Appends (W.contents writer.old) (W.contents writer.new) (log_bytes Two header.now records.now)) }
     ensures err { OnErr result (IsBegun (W.contents writer.old) (W.contents writer.new) (log_bytes Two header.now records.now)) }
 {
@@ -165,29 +125,6 @@ pub fn encode_to<W: Write, A: Allocator>(
     let digest = Sha256::digest(buffer.as_slice());
     write_out(writer, buffer.as_slice())?;
     write_out_records(writer, &mut buffer, digest, records)
-}
-
-/// What a read takes at most.
-const CHUNK: usize = 4096;
-
-/// All that the reader gives; the first read that fails ends it, an interrupted one too.
-fn read_all<R: Read, A: Allocator>(alloc: A, reader: &mut R) -> Result<Vec<u8, A>, ReadError>
-    ensures read { IfOk result (λ text. Consumes (R.remaining reader.old) (R.remaining reader.new) text.items) }
-    ensures end { OnOk result (IsAtEnd (R.remaining reader.new)) }
-    ensures err { IfErr result (λ e. IsUnread e) }
-{
-    let mut text = Vec::new(alloc);
-    let mut chunk = [0; CHUNK];
-    loop {
-        let taken = match reader.read(&mut chunk) {
-            Ok(taken) => taken,
-            Err(_) => return Err(ReadError::ReadFault),
-        };
-        if taken == 0 {
-            return Ok(text);
-        }
-        text.extend_from_slice(&chunk[..taken])?;
-    }
 }
 
 fn answer_from<R: Read, A: Allocator + Clone>(

@@ -1,6 +1,6 @@
 //! Tests of the ranges, the order and the limit of a log.
 use super::*;
-use crate::limits::{RECORDS, REPLIES};
+use crate::limits::{LOG_RECORDS, REPLIES};
 use phase::Phase;
 use procedure::{Call, Sequence, Value};
 use std::alloc::Global;
@@ -110,7 +110,7 @@ fn record_of_a_call(rt: HostRuntime) -> Result<(), Fail> {
 #[test]
 fn full_log(rt: HostRuntime) -> Result<(), Fail> {
     let mut log = Log::new(rt.alloc());
-    for _ in 0..RECORDS {
+    for _ in 0..LOG_RECORDS {
         assert!(rt; !log.is_full());
         log.push(Record::token(Phase::Prepare, 1))?;
     }

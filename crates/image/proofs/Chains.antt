@@ -7,7 +7,7 @@ use Rattle.std.proofs.lemmas.Bool.{eqb-true}
 use Rattle.procedure.specs.Bytes.{Bytes, Cell}
 use Rattle.image.specs.Images.{Entry, Image, Rises}
 use Rattle.image.specs.Joins.{Say, later_of, said_by}
-use Rattle.image.specs.Merges.{Refusal, unless, is_full, is_partial, links_refusal, chain_refusal, last_of, StandOn, IsChain}
+use Rattle.image.specs.Merges.{Refusal, unless, is_full, is_partial, links_refusal, chain_refusal, last_of, AreChained, IsChain}
 use Rattle.image.specs.declared.images.Kind.{Kind}
 use Rattle.image.specs.declared.images.Kind.TheVariants.{Full, Partial}
 use Rattle.image.specs.declared.merges.MergeError.{MergeError}
@@ -44,7 +44,8 @@ pub says_one : (is rest : List Image) (i : Image) (es : List Entry) → is ≡ i
 says_one is rest i es whole none rises same =
     subst (λ js. Say (said_by js) es) (sym (whole ∙ ap (λ r. i ∷ r) (none_left rest none))) (subst (Say (said_by (i ∷ []))) (sym same) (record { rises = rises; finds = λ q. refl }))
 
-pub says_two : (is first second : List Image) (older newer es : List Entry) → is ≡ first ++ second → Say (said_by first) older → Say (said_by second) newer → Say (later_of older newer) es → Say (said_by is) es
+pub says_two : (is first second : List Image) (older newer es : List Entry) → is ≡ first ++ second → Say (said_by first) older → Say (said_by second) newer → Say (later_of older newer) es →
+    Say (said_by is) es
 says_two is first second older newer es whole one two both = record {
   rises = both.rises;
   finds = λ q.
@@ -75,7 +76,7 @@ full_kind : (k : Kind) → is_full k ≡ true → k ≡ Full
 full_kind Full h = refl
 full_kind Partial h = absurd (cc)
 
-stand_on : (i number : ℕ) (ps : List Image) → links_refusal i number ps ≡ None → StandOn number ps
+stand_on : (i number : ℕ) (ps : List Image) → links_refusal i number ps ≡ None → AreChained number ps
 stand_on i number [] h = tt
 stand_on i number (p ∷ ps) h =
     let links = second_none _ _ h in (

@@ -53,12 +53,14 @@ block_takes before n b x fits e =
     subst (λ (y : List Entry × (Bytes × Bytes)). Takes b (block_bytes before y.0) y.1.1 × (y.1.0 ≡ block_digest before y.0) × (length y.0 ≡ n) × AllByRecursion IsSpellable y.0) g.1
     (whole, digest-is, te.1, te.2)
 
-block_from : (before b : Bytes) (n : ℕ) (es : List Entry) (behind st r : Bytes) → entries_at n b ≡ Some (es, behind) → parted 32 behind ≡ Some (st, r) → st ≡ seen before b behind → block_at before n b ≡ Some (es, (st, r))
+block_from : (before b : Bytes) (n : ℕ) (es : List Entry) (behind st r : Bytes) → entries_at n b ≡ Some (es, behind) → parted 32 behind ≡ Some (st, r) → st ≡ seen before b behind →
+    block_at before n b ≡ Some (es, (st, r))
 unfolding block_at
 block_from before b n es behind st r found parts same =
     rw (found, parts, (bytes_decides st (seen before b behind)).1 same) (ap (λ (d : Bytes). Some (es, (d, r))) (sym same))
 
-pub block_again : (before : Bytes) (n : ℕ) (es : List Entry) (r : Bytes) → length es ≡ n → AllByRecursion IsSpellable es → block_at before n (block_bytes before es ++ r) ≡ Some (es, (block_digest before es, r))
+pub block_again : (before : Bytes) (n : ℕ) (es : List Entry) (r : Bytes) → length es ≡ n → AllByRecursion IsSpellable es →
+    block_at before n (block_bytes before es ++ r) ≡ Some (es, (block_digest before es, r))
 block_again before n es r len fits =
     let d = block_digest before es in
     let regrouped : block_bytes before es ++ r ≡ entries_bytes es ++ (d ++ r) = append_assoc (entries_bytes es) d r in
@@ -93,7 +95,11 @@ cut n m es fs first others = elim (cases_lt n 64) [
   | inl few ↦
       let none : fs ≡ [] = nil_from_length fs (omega (arith, others)) in
       let alone : es ++ fs ≡ es = ap (λ (l : List Entry). es ++ l) none ∙ append-nil es in
-      record { front = ap (λ (l : List Entry). take 64 l) alone ∙ take_all 64 es (omega (arith, first)); back = ap (λ (l : List Entry). drop 64 l) alone ∙ drop_all 64 es (omega (arith, first)) ∙ sym none }
+      record {
+        front = ap (λ (l : List Entry). take 64 l) alone ∙ take_all 64 es (omega (arith, first));
+        back = ap (λ (l : List Entry). drop 64 l) alone ∙ drop_all 64 es (omega (arith, first)) ∙
+            sym none;
+      }
   | inr many ↦
       let whole : length es ≡ 64 = omega (arith, first) in
       record { front = take_at es fs 64 whole; back = drop_at es fs 64 whole }
@@ -184,7 +190,8 @@ first_taken m j left before b x others fits e (Some (es, (d, r))) found =
 pub blocks_take : (m j left : ℕ) (before b : Bytes) (x : List Entry × Bytes) → IsBytes b → blocks_at m j left before b ≡ Ok x → BlocksTaken m left before b x
 unfolding blocks_at
 blocks_take zero j left before b x fits e =
-    subst (λ (y : List Entry × Bytes). Takes b (blocks_bytes 0 before y.0) y.1 × (length y.0 ≡ min left 0) × AllByRecursion IsSpellable y.0) (ok_is ([], b) x e) (record { parts = refl; rest_fits = fits }, omega arith, tt)
+    subst (λ (y : List Entry × Bytes). Takes b (blocks_bytes 0 before y.0) y.1 × (length y.0 ≡ min left 0) × AllByRecursion IsSpellable y.0) (ok_is ([], b) x e)
+    (record { parts = refl; rest_fits = fits }, omega arith, tt)
 blocks_take (suc m) j left before b x fits e = first_taken m j left before b x (blocks_take m) fits e (block_at before (min left 64) b) refl
 
 pub blocks_again : (m j left : ℕ) (before b : Bytes) (o : Opens left before m b) → blocks_at m j left before b ≡ Ok (o.0, o.1)
@@ -246,7 +253,8 @@ blocks_fail zero j left before b e fits h = absurd (cc)
 blocks_fail (suc m) j left before b e fits h = first_fails m j left before b e (blocks_fail m) fits h (block_at before (min left 64) b) refl
 
 -- and the first block that isn't whole is where reading stops
-pub blocks_stop : (m k j left : ℕ) (before b : Bytes) → IsBytes b → k < m → Opens left before k b → (Opens left before (suc k) b → ⊥) → blocks_at m j left before b ≡ Err (refused.BadBlock (suc (j + k)))
+pub blocks_stop : (m k j left : ℕ) (before b : Bytes) → IsBytes b → k < m → Opens left before k b → (Opens left before (suc k) b → ⊥) →
+    blocks_at m j left before b ≡ Err (refused.BadBlock (suc (j + k)))
 unfolding blocks_at
 blocks_stop zero k j left before b fits lt opens no_more = absurd (omega arith)
 blocks_stop (suc m) zero j left before b fits lt opens no_more = go (block_at before (min left 64) b) refl

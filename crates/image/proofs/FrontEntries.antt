@@ -134,11 +134,13 @@ entries_take (suc n) b x fits e =
     let second = entries_take n a.0.1 o.0 first.0.rest_fits o.1 in
     let both = Takes-then b (entry_bytes a.0.0) a.0.1 (entries_bytes o.0.0) o.0.1 first.0 second.0 in
     let made : List Entry × Bytes = (a.0.0 ∷ o.0.0, o.0.1) in
-    subst (λ (y : List Entry × Bytes). Takes b (entries_bytes y.0) y.1 × (length y.0 ≡ suc n) × AllByRecursion IsSpellable y.0) (some_is made x o.2) (rw flat_map-cons both, ap suc second.1, (first.1, second.2))
+    subst (λ (y : List Entry × Bytes). Takes b (entries_bytes y.0) y.1 × (length y.0 ≡ suc n) × AllByRecursion IsSpellable y.0) (some_is made x o.2)
+    (rw flat_map-cons both, ap suc second.1, (first.1, second.2))
 
 pub entries_again : (es : List Entry) (r : Bytes) → AllByRecursion IsSpellable es → entries_at (length es) (entries_bytes es ++ r) ≡ Some (es, r)
 unfolding entries_at
 entries_again [] r fits = refl
 entries_again (e ∷ es) r fits =
-    let regrouped : entries_bytes (e ∷ es) ++ r ≡ entry_bytes e ++ (entries_bytes es ++ r) = ap (λ (x : Bytes). x ++ r) (flat_map-cons entry_bytes e es) ∙ append_assoc (entry_bytes e) (entries_bytes es) r in
+    let regrouped : entries_bytes (e ∷ es) ++ r ≡ entry_bytes e ++ (entries_bytes es ++ r) = ap (λ (x : Bytes). x ++ r) (flat_map-cons entry_bytes e es) ∙
+    append_assoc (entry_bytes e) (entries_bytes es) r in
     ap (entries_at (suc (length es))) regrouped ∙ rw (entry_again e (entries_bytes es ++ r) fits.0, entries_again es r fits.1) refl

@@ -9,7 +9,7 @@ use Rattle.byteorder.specs.Endian.{big_bytes, big_number}
 use Rattle.byteorder.specs.Numbers.{big_from-take, big_number-reads_back}
 use Rattle.procedure.specs.Bytes.{Bytes}
 use Rattle.image.specs.Images.{Entry, Image}
-use Rattle.image.specs.ImageBytes.{HasNumbers, header_bytes, kind_byte}
+use Rattle.image.specs.ImageBytes.{HasNumbers, image_header_bytes, kind_byte}
 use Rattle.image.specs.Fronts.{◌>>=◌}
 use Rattle.image.specs.Readings.{image_at, kind_of}
 use Rattle.image.specs.Refusals.{stated}
@@ -47,8 +47,9 @@ four_taken k b long fits =
 abbrev made : Kind → Bytes → List Entry → Image
 made k b es = record { kind = k; number = big_number 8 (drop 9 b); base = big_number 8 (drop 17 b); place = big_number 8 (drop 25 b); entries = es }
 
-made_header : (magic b : Bytes) (k : Kind) (es : List Entry) → 69 ≤ length b → IsBytes b → take 8 b ≡ magic → kind_of (slice_index b 8) ≡ Some k → length es ≡ stated b → header_bytes magic (made k b es) ≡ take 37 b
-unfolding header_bytes
+made_header : (magic b : Bytes) (k : Kind) (es : List Entry) → 69 ≤ length b → IsBytes b → take 8 b ≡ magic → kind_of (slice_index b 8) ≡ Some k → length es ≡ stated b →
+    image_header_bytes magic (made k b es) ≡ take 37 b
+unfolding image_header_bytes
 made_header magic b k es long fits is_magic is_kind count =
     let c : big_bytes 4 (length es) ≡ take 4 (drop 33 b) = ap (big_bytes 4) count ∙ four_taken 33 b (omega arith) fits in
     let kind : kind_byte k ∷ [] ≡ take 1 (drop 8 b) = ap (λ n. n ∷ []) (kind_back (slice_index b 8) k is_kind) ∙ sym (one_taken 8 b (omega arith)) in
@@ -65,11 +66,12 @@ entries_are b es i h =
     let k = bind_some (kind_of (slice_index b 8)) (λ k. Some (made k b es)) i h in
     ap (λ (x : Image). x.entries) (sym (some_is (made k.0 b es) i k.2))
 
-pub header_back : (magic b : Bytes) (es : List Entry) (i : Image) → 69 ≤ length b → IsBytes b → take 8 b ≡ magic → image_at b es ≡ Some i → length es ≡ stated b → take 37 b ≡ header_bytes magic i
+pub header_back : (magic b : Bytes) (es : List Entry) (i : Image) → 69 ≤ length b → IsBytes b → take 8 b ≡ magic → image_at b es ≡ Some i → length es ≡ stated b →
+    take 37 b ≡ image_header_bytes magic i
 unfolding image_at
 header_back magic b es i long fits is_magic h count =
     let k = bind_some (kind_of (slice_index b 8)) (λ k. Some (made k b es)) i h in
-    sym (made_header magic b k.0 es long fits is_magic k.1 count) ∙ ap (header_bytes magic) (some_is (made k.0 b es) i k.2)
+    sym (made_header magic b k.0 es long fits is_magic k.1 count) ∙ ap (image_header_bytes magic) (some_is (made k.0 b es) i k.2)
 
 -- ---- from the header to bytes
 
@@ -82,11 +84,11 @@ pub record Says (magic b : Bytes) (i : Image) : Type 0 where
   pub begins : take 8 b ≡ magic
   pub image : image_at b i.entries ≡ Some i
   pub count : stated b ≡ length i.entries
-  pub header : take 37 b ≡ header_bytes magic i
+  pub header : take 37 b ≡ image_header_bytes magic i
 
 says : (a0 a1 a2 a3 a4 a5 a6 a7 : ℕ) (i : Image) (rest : Bytes) → HasNumbers i → length i.entries < 2 ^ 32 →
-    let magic = a0 ∷ a1 ∷ a2 ∷ a3 ∷ a4 ∷ a5 ∷ a6 ∷ a7 ∷ [] in Says magic (header_bytes magic i ++ rest) i
-unfolding header_bytes image_at
+    let magic = a0 ∷ a1 ∷ a2 ∷ a3 ∷ a4 ∷ a5 ∷ a6 ∷ a7 ∷ [] in Says magic (image_header_bytes magic i ++ rest) i
+unfolding image_header_bytes image_at
 says a0 a1 a2 a3 a4 a5 a6 a7 i rest fits few =
     let after_place = big_bytes 4 (length i.entries) ++ rest in
     let after_base = big_bytes 8 i.place ++ after_place in
@@ -97,13 +99,22 @@ says a0 a1 a2 a3 a4 a5 a6 a7 i rest fits few =
     record {
       begins = refl;
       image =
-          ap (λ o. o >>= λ k. Some (record { kind = k; number = big_number 8 (big_bytes 8 i.number ++ after_number); base = big_number 8 (big_bytes 8 i.base ++ after_base); place = big_number 8 (big_bytes 8 i.place ++ after_place); entries = i.entries })) (kind_again i.kind)
+          ap
+          (λ o. o >>=
+          λ k. Some (record {
+            kind = k;
+            number = big_number 8 (big_bytes 8 i.number ++ after_number);
+            base = big_number 8 (big_bytes 8 i.base ++ after_base);
+            place =
+                big_number 8 (big_bytes 8 i.place ++ after_place);
+            entries = i.entries;
+          })) (kind_again i.kind)
           ∙ (λ j. Some (record { kind = i.kind; number = number j; base = base j; place = place j; entries = i.entries }));
       count = big_number-reads_back 4 (length i.entries) rest few;
       header = refl;
     }
 
 pub header_again : (a0 a1 a2 a3 a4 a5 a6 a7 : ℕ) (b : Bytes) (i : Image) (rest : Bytes) → HasNumbers i → length i.entries < 2 ^ 32 →
-    let magic = a0 ∷ a1 ∷ a2 ∷ a3 ∷ a4 ∷ a5 ∷ a6 ∷ a7 ∷ [] in b ≡ header_bytes magic i ++ rest → Says magic b i
+    let magic = a0 ∷ a1 ∷ a2 ∷ a3 ∷ a4 ∷ a5 ∷ a6 ∷ a7 ∷ [] in b ≡ image_header_bytes magic i ++ rest → Says magic b i
 header_again a0 a1 a2 a3 a4 a5 a6 a7 b i rest fits few is =
     subst (λ (x : Bytes). Says (a0 ∷ a1 ∷ a2 ∷ a3 ∷ a4 ∷ a5 ∷ a6 ∷ a7 ∷ []) x i) (sym is) (says a0 a1 a2 a3 a4 a5 a6 a7 i rest fits few)

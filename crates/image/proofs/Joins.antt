@@ -127,10 +127,12 @@ find_woven : (q : Bytes) (x : Entry) (xs : List Entry) → ((ys : List Entry) �
 find_woven q x xs f [] hy = refl
 find_woven q x xs f (y ∷ ys) hy =
     let (below, rest) = parts (below_all by_bytes y.0 ys) (is_sorted by_bytes ys) hy in
-    elim (by_bytes x.0 y.0) as (λ r. by_bytes x.0 y.0 ≡ r → find by_bytes q (by_order r (x ∷ union xs (y ∷ ys)) (y ∷ union xs ys) (y ∷ woven x xs (union xs) ys)) ≡ option_or (find by_bytes q (y ∷ ys)) (find by_bytes q (x ∷ xs))) [
+    elim (by_bytes x.0 y.0) as (λ r. by_bytes x.0 y.0 ≡ r → find by_bytes q (by_order r (x ∷ union xs (y ∷ ys)) (y ∷ union xs ys) (y ∷ woven x xs (union xs) ys)) ≡ option_or (find by_bytes q (y ∷ ys))
+    (find by_bytes q (x ∷ xs))) [
       | Less ↦ λ e. ap (cond (eq_by_cmp by_bytes q x.0) (Some x.1)) (f (y ∷ ys) hy)
           ∙ second_counts (eq_by_cmp by_bytes q x.0) x.1 (find by_bytes q (y ∷ ys)) (find by_bytes q xs)
-          (λ h. subst (λ k. find by_bytes k (y ∷ ys) ≡ None) (sym (same_key q x.0 h)) (find_below x.0 (y ∷ ys) (both (is_lt (by_bytes x.0 y.0)) (below_all by_bytes x.0 ys) (is_less _ e) (below_through x.0 y.0 ys e below))))
+          (λ h. subst (λ k. find by_bytes k (y ∷ ys) ≡ None) (sym (same_key q x.0 h)) (find_below x.0 (y ∷ ys)
+          (both (is_lt (by_bytes x.0 y.0)) (below_all by_bytes x.0 ys) (is_less _ e) (below_through x.0 y.0 ys e below))))
       | Equal ↦ λ e. ap (cond (eq_by_cmp by_bytes q y.0) (Some y.1)) (f ys rest)
           ∙ shadowed (eq_by_cmp by_bytes q y.0) y.1 x.1 (find by_bytes q ys) (find by_bytes q xs)
           ∙ ap (λ k. option_or (find by_bytes q (y ∷ ys)) (cond (eq_by_cmp by_bytes q k) (Some x.1) (find by_bytes q xs))) (sym (same_of Equal x.0 y.0 e tt))

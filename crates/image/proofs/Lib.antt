@@ -17,5 +17,4 @@ pub mod HeaderBytes
 pub mod Spellings
 pub mod ReadAnswers
 pub mod Rooms
-pub mod Goings
 pub mod Arrivals

@@ -12,7 +12,7 @@ use Rattle.image.specs.ImageBytes.{IsImageSpelling, block_count}
 use Rattle.image.specs.Fronts.{blocks_at, entries_at}
 use Rattle.image.specs.Readings.{IsBad, Judges, alone, alone_or_bad, alone_or_refused, first_entries, image_at, second_entries}
 use Rattle.image.specs.Refusals.{HasHeader, IsAnswer, IsFirst, IsNoImage, IsSecond, IsSigned, IsWhole, Refuses, stated}
-use Rattle.image.specs.declared.limits.TheConstants.{FIRST_VALUE_BYTES}
+use Rattle.image.specs.declared.limits.TheConstants.{VALUE_BYTES_V1}
 use Rattle.image.specs.declared.errors.ReadError.{ReadError}
 use Rattle.image.specs.declared.errors.ReadError.TheVariants as refused
 use Rattle.image.proofs.FrontEntries.{IsBytes, IsBytes-drop, some_is}
@@ -211,7 +211,7 @@ second_fails b e second fits h =
     ]
 
 -- entries that were read, and make no lawful image
-bad_first : (b : Bytes) (es : List Entry) → IsFirst b → first_entries b ≡ Ok es → IsBad FIRST_VALUE_BYTES b es → IsNoImage b
+bad_first : (b : Bytes) (es : List Entry) → IsFirst b → first_entries b ≡ Ok es → IsBad VALUE_BYTES_V1 b es → IsNoImage b
 bad_first b es first read bad i (inl v) =
     let r = first_again i b v in
     bad i (ap (image_at b) (read_is es i.entries (sym read ∙ r.read)) ∙ r.image) v.0
@@ -229,7 +229,7 @@ whole_second b es second fits read =
     let t = blocks_take (block_count (stated b)) 0 (stated b) (sha256 (take 37 b)) (drop 69 b) (es, []) (IsBytes-drop 69 b fits) p.1 in
     inr (second, p.0, (es, [], t.1, t.2, t.0.parts))
 
-pub first_judged : (b : Bytes) (r : Answer) → IsFirst b → IsBytes b → Judges FIRST_VALUE_BYTES b (first_entries b) r → (r ≡ Err refused.NoMemory) ⊎ IsAnswer b r
+pub first_judged : (b : Bytes) (r : Answer) → IsFirst b → IsBytes b → Judges VALUE_BYTES_V1 b (first_entries b) r → (r ≡ Err refused.NoMemory) ⊎ IsAnswer b r
 first_judged b (Ok i) first fits (es, read, at, lawful) = inr (inl (lawful, first_back b es i first fits read at))
 first_judged b (Err e) first fits (inl memory) = inl (ap (λ (x : ReadError). Err x) memory)
 first_judged b (Err e) first fits (inr (inl read)) = inr (first_fails b e first read)

@@ -25,7 +25,8 @@ pub first_is : (b t d s es : Bytes) (n : ℕ) → t ≡ take (length b - 32) b �
 first_is b t d s es n front back digest count behind alike_ =
     (λ i. alone_or_bad (entries_at (count i) ((behind ∙ ap (drop 37) front) i))) ∙ sym (first_signed b (sym back ∙ alike d s alike_ ∙ digest ∙ ap sha256 front))
 
-pub second_is : (b h behind d s s' t : Bytes) (n : ℕ) → h ≡ take 37 b → behind ≡ drop 37 b → d ≡ take 32 behind → t ≡ drop 32 behind → s ≡ sha256 h → s' ≡ s → n ≡ stated b → not (pointwise nat_eq d s') ≡ false →
+pub second_is : (b h behind d s s' t : Bytes) (n : ℕ) → h ≡ take 37 b → behind ≡ drop 37 b → d ≡ take 32 behind → t ≡ drop 32 behind → s ≡ sha256 h → s' ≡ s → n ≡ stated b →
+    not (pointwise nat_eq d s') ≡ false →
     alone_or_refused (blocks_at (block_count n) 0 n s t) ≡ second_entries b
 second_is b h behind d s s' t n front back first rest digest lent count alike_ =
     (λ i. alone_or_refused (blocks_at (block_count (count i)) 0 (count i) ((digest ∙ ap sha256 front) i) ((rest ∙ ap (drop 32) back ∙ drop-drop_is) i)))

@@ -80,7 +80,8 @@ falls e f (x ∷ tail) at h =
     let same : x ≡ f = cc in
     ap (λ b. b && steps_up (x ∷ tail)) (ap (λ (y : _). is_lt (by_bytes e.0 y.0)) same ∙ not_below _ h)
 
-pub no_rise_from_walk : {X : Type 0} (rest all : List (Bytes × X)) (e f : Bytes × X) (tail : List (Bytes × X)) → rest ≡ e ∷ tail → slice_get tail 0 ≡ Some f → is_ge (by_bytes e.0 f.0) ≡ true → steps_up rest ≡ steps_up all →
+pub no_rise_from_walk : {X : Type 0} (rest all : List (Bytes × X)) (e f : Bytes × X) (tail : List (Bytes × X)) → rest ≡ e ∷ tail → slice_get tail 0 ≡ Some f → is_ge (by_bytes e.0 f.0) ≡ true →
+    steps_up rest ≡ steps_up all →
     IsTrue false ↔ IsTrue (is_sorted by_bytes all)
 no_rise_from_walk rest all e f tail is at h same =
     let no : is_sorted by_bytes all ≡ false = sym (steps_up-is_sorted all) ∙ sym same ∙ ap steps_up is ∙ falls e f tail at h in

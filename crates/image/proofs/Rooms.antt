@@ -14,7 +14,8 @@ pub entry_among : (es : List Entry) (i : ℕ) (e : Entry) (out old : Bytes) → 
     length out + length (entry_bytes e) ≤ length old + length (entries_bytes es)
 entry_among es i e out old lt is whole =
     let rest = entries_bytes (drop (i + 1) es) in
-    let front : length (entries_bytes (drop i es)) ≡ length (entry_bytes e) + length rest = ap (λ (l : List Entry). length (entries_bytes l)) (next_is es i e lt is) ∙ length-append (entry_bytes e) rest in
+    let front : length (entries_bytes (drop i es)) ≡ length (entry_bytes e) + length rest = ap (λ (l : List Entry). length (entries_bytes l)) (next_is es i e lt is) ∙
+    length-append (entry_bytes e) rest in
     let left = length-append out (entries_bytes (drop i es)) in
     let right = length-append old (entries_bytes es) in
     let same = ap (λ (x : Bytes). length x) whole in

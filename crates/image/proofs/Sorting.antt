@@ -17,8 +17,8 @@ use Rattle.std.proofs.lemmas.List.Sorted.{Contains-permutation, IsPermutation-ma
 use Rattle.std.proofs.lemmas.Map.Keys.{IsDistinct-cons, IsDistinct-head, IsDistinct-tail, IsDistinct-IsPermutation}
 use Rattle.procedure.specs.Bytes.{Bytes, Cell}
 use Rattle.procedure.specs.Table.{Changes, change_at, with_pairs}
-use Rattle.image.specs.Images.{AllPresent, Entry, Image, IsLawful, SuitsKind, changes_of}
-use Rattle.image.specs.Headers.{IsOnce, map_of, of_captured}
+use Rattle.image.specs.Images.{AllPresent, Entry, Image, IsLawfulImage, SuitsKind, changes_of}
+use Rattle.image.specs.Headers.{EachKeyOnce, map_of, of_captured}
 use Rattle.image.specs.declared.images.Kind.{Kind}
 use Rattle.image.specs.declared.images.Kind.TheVariants.{Full, Partial}
 use Rattle.image.specs.declared.limits.TheConstants.{ENTRIES}
@@ -103,7 +103,7 @@ module _ (es ys : List Entry) (moved : IsPermutation es ys) where
       same_entries by_bytes nat_list_cmp_total (slice_cmp-IsAntisymmetric nat_cmp-IsAntisymmetric) ys (entries (map_of es)) rises (entries_sorted (map_of es))
       (λ q. same_found rises q ∙ get-entries (map_of es) q)
 
-  pub once_from_order : T (is_sorted by_bytes ys) → IsOnce es
+  pub once_from_order : T (is_sorted by_bytes ys) → EachKeyOnce es
   once_from_order rises = len-entries (map_of es) ∙ ap length (sym (are_entries rises)) ∙ length_permutation es ys moved
 
 -- ---- where no key comes twice, the sorted keys rise
@@ -150,7 +150,7 @@ all_new m (d ∷ es) e =
     let apart = still_new m d (keys_of es) rest.1 in
     (IsDistinct-cons same d.0 (keys_of es) apart.0 rest.0, (here, apart.1))
 
-distinct : (es : List Entry) → IsOnce es → IsDistinct same (keys_of es)
+distinct : (es : List Entry) → EachKeyOnce es → IsDistinct same (keys_of es)
 distinct es once = let none = len-empty by_bytes Cell in (all_new finite.empty es (omega arith)).0
 
 less : (r : Ordering) → is_lt (ordering_reverse r) ≡ false → is_eq r ≡ false → r ≡ Less
@@ -172,7 +172,7 @@ rising (d ∷ e ∷ ys) sorted apart =
     (IsDistinct-tail same d.0 (keys_of (e ∷ ys)) apart))
 
 module _ (kind : Kind) (number base place : ℕ) (es ys : List Entry) (moved : IsPermutation es ys) (sorted : IsSortedByKey (λ (e : Entry). e.0) by_bytes ys) where
-  in_order : IsOnce es → T (is_sorted by_bytes ys)
+  in_order : EachKeyOnce es → T (is_sorted by_bytes ys)
   in_order once =
       subst T (steps_up-is_sorted ys)
       (rising ys sorted (IsDistinct-IsPermutation same (eq_by_cmp_equiv nat_list_cmp_total).symm (keys_of es) (keys_of ys) (IsPermutation-map (λ (e : Entry). e.0) es ys moved) (distinct es once)))
@@ -180,18 +180,18 @@ module _ (kind : Kind) (number base place : ℕ) (es ys : List Entry) (moved : I
   abbrev of : List Entry → Image
   of l = record { kind = kind; number = number; base = base; place = place; entries = l }
 
-  rises : IsLawful (of ys) → T (is_sorted by_bytes ys)
+  rises : IsLawfulImage (of ys) → T (is_sorted by_bytes ys)
   rises lawful = subst T (sym lawful.rises) tt
 
   -- what the image of the sorted entries is, and where it is lawful
-  pub is_of_captured : (r : Option Image) → IfSome r (λ i. i ≡ of ys) → (IsSome r ↔ IsLawful (of ys)) → IfSome r (λ i. i ≡ of_captured kind number base place es)
+  pub is_of_captured : (r : Option Image) → IfSome r (λ i. i ≡ of ys) → (IsSome r ↔ IsLawfulImage (of ys)) → IfSome r (λ i. i ≡ of_captured kind number base place es)
   is_of_captured None is lawful = tt
   is_of_captured (Some i) is lawful = is ∙ ap of (are_entries es ys moved (rises (lawful.0 refl)))
 
-  pub is_captured : (r : Option Image) → (IsSome r ↔ IsLawful (of ys)) → IsSome r ↔ (IsOnce es × IsLawful (of_captured kind number base place es))
+  pub is_captured : (r : Option Image) → (IsSome r ↔ IsLawfulImage (of ys)) → IsSome r ↔ (EachKeyOnce es × IsLawfulImage (of_captured kind number base place es))
   is_captured r lawful = (
-    λ s. let here = lawful.0 s in (once_from_order es ys moved (rises here), subst (λ l. IsLawful (of l)) (are_entries es ys moved (rises here)) here),
-    λ x. lawful.1 (subst (λ l. IsLawful (of l)) (sym (are_entries es ys moved (in_order x.0))) x.1),
+    λ s. let here = lawful.0 s in (once_from_order es ys moved (rises here), subst (λ l. IsLawfulImage (of l)) (are_entries es ys moved (rises here)) here),
+    λ x. lawful.1 (subst (λ l. IsLawfulImage (of l)) (sym (are_entries es ys moved (in_order x.0))) x.1),
   )
 
 -- ---- for the crates above: entries as they are captured one after another
@@ -209,7 +209,7 @@ pub map_of-push : (es : List Entry) (k : Bytes) (x : Cell) → map_of (es ++ (k,
 map_of-push es k x = with_pairs-push finite.empty es (k, x)
 
 -- a key that wasn't captured
-pub once-push : (es : List Entry) (k : Bytes) (x : Cell) → IsOnce es → change_at (map_of es) k ≡ None → IsOnce (es ++ (k, x) ∷ [])
+pub once-push : (es : List Entry) (k : Bytes) (x : Cell) → EachKeyOnce es → change_at (map_of es) k ≡ None → EachKeyOnce (es ++ (k, x) ∷ [])
 once-push es k x once new =
     ap (λ (m : Changes). len m) (map_of-push es k x)
     ∙ len-insert nat_list_cmp_total (map_of es) k x
@@ -227,7 +227,8 @@ suits_sorted Full number base es suits = (suits.0, present)
         let held : change_at (map_of es) e.0 ≡ Some e.1 = get-entries (map_of es) e.0 ∙ find_at (entries (map_of es)) k d (entries_sorted (map_of es)) within in
         All-contains (λ (f : Entry). IsSome f.1) es (e.0, e.1) suits.1 (held_stands es e.0 e.1 held)
 
-pub lawful_captured : (kind : Kind) (number base place : ℕ) (es : List Entry) → length es ≤ ENTRIES → IsOnce es → SuitsKind kind number base es → IsLawful (of_captured kind number base place es)
+pub lawful_captured : (kind : Kind) (number base place : ℕ) (es : List Entry) → length es ≤ ENTRIES → EachKeyOnce es → SuitsKind kind number base es →
+    IsLawfulImage (of_captured kind number base place es)
 lawful_captured kind number base place es few once suits =
     record {
       few = subst (λ n. n ≤ ENTRIES) (sym once ∙ len-entries (map_of es)) few;

@@ -11,11 +11,11 @@ use Rattle.sha2.proofs.Facts256.{length-sha256}
 use Rattle.procedure.specs.Bytes.{Bytes, Cell}
 use Rattle.procedure.specs.declared.limits.TheConstants.{VALUE_BYTES}
 use Rattle.image.specs.Images.{Entry, Image}
-use Rattle.image.specs.ImageBytes.{IsVersion1, IsVersion2, IsWithin, block_count, blocks_bytes, entries_bytes, header_bytes, signed, version_1, version_2}
+use Rattle.image.specs.ImageBytes.{IsVersion1, IsVersion2, IsWithin, block_count, blocks_bytes, entries_bytes, image_header_bytes, signed, version_1, version_2}
 use Rattle.image.specs.Fronts.{blocks_at, entries_at}
 use Rattle.image.specs.Readings.{alone, alone_or_bad, alone_or_refused, first_entries, image_at, second_entries}
 use Rattle.image.specs.Refusals.{HasHeader, IsFirst, IsSecond, IsSigned, IsSpellable, stated}
-use Rattle.image.specs.declared.limits.TheConstants.{FIRST_VALUE_BYTES}
+use Rattle.image.specs.declared.limits.TheConstants.{VALUE_BYTES_V1}
 use Rattle.image.specs.declared.errors.ReadError.{ReadError}
 use Rattle.image.specs.declared.errors.ReadError.TheVariants as refused
 use Rattle.image.proofs.FrontEntries.{IsBytes, IsBytes-drop, IsBytes-take, entries_again, entries_take}
@@ -80,9 +80,10 @@ first_back b es i first fits read image =
     let front = take (length b - 32) b in
     let p = first_passed b es read in
     let t = entries_take (stated b) (drop 37 front) (es, []) (IsBytes-drop 37 front (IsBytes-take (length b - 32) b fits)) p.1 in
-    let head : take 37 front ≡ header_bytes (codes "CALCIMG1") i = take-take 37 (length b - 32) b (omega (arith, first.long)) ∙ header_back (codes "CALCIMG1") b es i first.long fits first.magic image t.1 in
+    let head : take 37 front ≡ image_header_bytes (codes "CALCIMG1") i = take-take 37 (length b - 32) b (omega (arith, first.long)) ∙
+    header_back (codes "CALCIMG1") b es i first.long fits first.magic image t.1 in
     let tail : drop 37 front ≡ entries_bytes i.entries = t.0.parts ∙ append-nil (entries_bytes es) ∙ ap entries_bytes (sym (entries_are b es i image)) in
-    let whole : front ≡ header_bytes (codes "CALCIMG1") i ++ entries_bytes i.entries = sym (take-append-drop 37 front) ∙ (λ j. head j ++ tail j) in
+    let whole : front ≡ image_header_bytes (codes "CALCIMG1") i ++ entries_bytes i.entries = sym (take-append-drop 37 front) ∙ (λ j. head j ++ tail j) in
     sym (take-append-drop (length b - 32) b) ∙ ap (λ (x : Bytes). front ++ x) p.0 ∙ ap signed whole
 
 all_blocks : (n : ℕ) → min n (64 * block_count n) ≡ n
@@ -92,7 +93,7 @@ pub second_back : (b : Bytes) (es : List Entry) (i : Image) → IsSecond b → I
 second_back b es i second fits read image =
     let p = second_passed b es read in
     let n = stated b in
-    let h = header_bytes (codes "CALCIMG2") i in
+    let h = image_header_bytes (codes "CALCIMG2") i in
     let t = blocks_take (block_count n) 0 n (sha256 (take 37 b)) (drop 69 b) (es, []) (IsBytes-drop 69 b fits) p.1 in
     let count : length es ≡ n = t.1 ∙ all_blocks n in
     let head : take 37 b ≡ h = header_back (codes "CALCIMG2") b es i second.long fits second.magic image count in
@@ -102,7 +103,8 @@ second_back b es i second fits read image =
     ∙ (λ j. blocks_bytes (block_count (sym count j)) (sha256 (head j)) es)
     ∙ ap (λ (l : List Entry). blocks_bytes (block_count (length l)) (sha256 h) l) same in
     let behind : drop 37 b ≡ sha256 h ++ drop 69 b = sym (take-append-drop 32 (drop 37 b)) ∙ (λ j. (p.0 ∙ ap sha256 head) j ++ drop-drop 32 37 b j) in
-    sym (take-append-drop 37 b) ∙ (λ j. head j ++ behind j) ∙ ap (λ (x : Bytes). h ++ (sha256 h ++ x)) blocks ∙ sym (append_assoc h (sha256 h) (blocks_bytes (block_count (length i.entries)) (sha256 h) i.entries))
+    sym (take-append-drop 37 b) ∙ (λ j. head j ++ behind j) ∙ ap (λ (x : Bytes). h ++ (sha256 h ++ x)) blocks ∙
+    sym (append_assoc h (sha256 h) (blocks_bytes (block_count (length i.entries)) (sha256 h) i.entries))
 
 -- ---- from the image to bytes
 
@@ -114,14 +116,14 @@ all_spellable : (most : ℕ) (es : List Entry) → most ≤ VALUE_BYTES → AllB
 all_spellable most [] le h = tt
 all_spellable most (e ∷ es) le h = (record { key = let k = h.0.key in omega (arith, k); value = cell_spellable most e.1 le h.0.value }, all_spellable most es le h.1)
 
-header_length : (a0 a1 a2 a3 a4 a5 a6 a7 : ℕ) (i : Image) → length (header_bytes (a0 ∷ a1 ∷ a2 ∷ a3 ∷ a4 ∷ a5 ∷ a6 ∷ a7 ∷ []) i) ≡ 37
-unfolding header_bytes
+header_length : (a0 a1 a2 a3 a4 a5 a6 a7 : ℕ) (i : Image) → length (image_header_bytes (a0 ∷ a1 ∷ a2 ∷ a3 ∷ a4 ∷ a5 ∷ a6 ∷ a7 ∷ []) i) ≡ 37
+unfolding image_header_bytes
 header_length a0 a1 a2 a3 a4 a5 a6 a7 i = refl
 
-first_length : (i : Image) → length (header_bytes (codes "CALCIMG1") i) ≡ 37
+first_length : (i : Image) → length (image_header_bytes (codes "CALCIMG1") i) ≡ 37
 first_length i = header_length 67 65 76 67 73 77 71 49 i
 
-second_length : (i : Image) → length (header_bytes (codes "CALCIMG2") i) ≡ 37
+second_length : (i : Image) → length (image_header_bytes (codes "CALCIMG2") i) ≡ 37
 second_length i = header_length 67 65 76 67 73 77 71 50 i
 
 back_is : (b t r : Bytes) → b ≡ t ++ r → drop (length b - length r) b ≡ r
@@ -136,7 +138,7 @@ pub record FirstRead (i : Image) (b : Bytes) : Type 0 where
 
 pub first_again : (i : Image) (b : Bytes) → IsVersion1 i b → FirstRead i b
 first_again i b (fits, is) =
-    let h = header_bytes (codes "CALCIMG1") i in
+    let h = image_header_bytes (codes "CALCIMG1") i in
     let es = entries_bytes i.entries in
     let d = sha256 (h ++ es) in
     let digest : length d ≡ 32 = length-sha256 (h ++ es) in
@@ -148,7 +150,7 @@ first_again i b (fits, is) =
     let entries : entries_at (stated b) (drop 37 (take (length b - 32) b)) ≡ Some (i.entries, []) =
     (λ j. entries_at (says.count j) (drop 37 (front j)))
     ∙ ap (entries_at (length i.entries)) (drop_at h es 37 (first_length i) ∙ sym (append-nil es))
-    ∙ entries_again i.entries [] (all_spellable FIRST_VALUE_BYTES i.entries (omega arith) fits.entries) in
+    ∙ entries_again i.entries [] (all_spellable VALUE_BYTES_V1 i.entries (omega arith) fits.entries) in
     record {
       first = record { long = omega (arith, ap (λ (x : Bytes). length x) is, length-append (h ++ es) d, length-append h es, first_length i, digest); magic = says.begins };
       whole = whole;
@@ -165,7 +167,7 @@ pub record SecondRead (i : Image) (b : Bytes) : Type 0 where
 
 pub second_again : (i : Image) (b : Bytes) → IsVersion2 i b → SecondRead i b
 second_again i b (fits, is) =
-    let h = header_bytes (codes "CALCIMG2") i in
+    let h = image_header_bytes (codes "CALCIMG2") i in
     let d = sha256 h in
     let n = length i.entries in
     let blocks = blocks_bytes (block_count n) d i.entries in

@@ -10,8 +10,8 @@ use Rattle.std.proofs.lemmas.List.{length-map}
 use Rattle.std.proofs.lemmas.List.Elements.{All-from_recursion}
 use Rattle.procedure.specs.Bytes.{Bytes, Cell}
 use Rattle.procedure.specs.Table.{Table, Changes, value_at, change_at, changed_or, no_table, with_cell, with_cells, merged}
-use Rattle.image.specs.Images.{Entry, Image, IsLawful, changes_of, entries_of, full_image}
-use Rattle.image.specs.Merges.{table_of, table_after}
+use Rattle.image.specs.Images.{Entry, Image, IsLawfulImage, changes_of, entries_of, full_image}
+use Rattle.image.specs.Merges.{table_of, table_with_images}
 use Rattle.image.specs.Joins.{Say, present, said_by}
 use Rattle.image.specs.declared.limits.TheConstants.{ENTRIES}
 use Rattle.image.proofs.Rising.{by_bytes, both, parts}
@@ -37,7 +37,7 @@ all_shown : (es : List (Bytes × Bytes)) → AllByRecursion (λ (e : Entry). IsS
 all_shown [] = tt
 all_shown (e ∷ es) = (refl, all_shown es)
 
-pub lawful_full : (number place : ℕ) (t : Table) → len t ≤ ENTRIES → IsLawful (full_image number place t)
+pub lawful_full : (number place : ℕ) (t : Table) → len t ≤ ENTRIES → IsLawfulImage (full_image number place t)
 lawful_full number place t few = record {
   few = subst (λ n. n ≤ ENTRIES) (len-entries t ∙ sym (length-map (entries t) (λ e. (e.0, Some e.1)))) few;
   rises = is_true _ (sorted_shown (entries t) (entries_sorted t));
@@ -76,14 +76,14 @@ in_turn : (a b : Option Cell) (x : Cell) → changed_or a (changed_or b x) ≡ c
 in_turn None b x = refl
 in_turn (Some y) b x = refl
 
-value_at-table_after : (t : Table) (ps : List Image) (q : Bytes) → value_at (table_after t ps) q ≡ changed_or (said_by ps q) (value_at t q)
+value_at-table_after : (t : Table) (ps : List Image) (q : Bytes) → value_at (table_with_images t ps) q ≡ changed_or (said_by ps q) (value_at t q)
 value_at-table_after t [] q = refl
 value_at-table_after t (p ∷ ps) q =
     value_at-table_after (merged t (changes_of p)) ps q
     ∙ ap (changed_or (said_by ps q)) (value_at-changed t p q)
     ∙ in_turn (said_by ps q) (find by_bytes q p.entries) (value_at t q)
 
-pub value_at-chain : (full : Image) (ps : List Image) (q : Bytes) → value_at (table_after (table_of full) ps) q ≡ changed_or (said_by (full ∷ ps) q) None
+pub value_at-chain : (full : Image) (ps : List Image) (q : Bytes) → value_at (table_with_images (table_of full) ps) q ≡ changed_or (said_by (full ∷ ps) q) None
 value_at-chain full ps q =
     value_at-table_after (table_of full) ps q
     ∙ ap (changed_or (said_by ps q)) (value_at-changed no_table full q ∙ ap (changed_or (find by_bytes q full.entries)) (value_at-no_table q))
@@ -150,7 +150,8 @@ kept_is (Some (Some v)) = refl
 pub present_is_table : (said : Bytes → Option Cell) (es : List Entry) (t : Table) → Say said es → ((q : Bytes) → value_at t q ≡ changed_or (said q) None) → present es ≡ entries_of t
 present_is_table said es t h holds =
     let rises = subst T (sym h.rises) tt in
-    same_entries by_bytes nat_list_cmp_total (slice_cmp-IsAntisymmetric nat_cmp-IsAntisymmetric) (present es) (entries_of t) (sorted_present es rises) (sorted_shown (entries t) (entries_sorted t)) (λ q.
+    same_entries by_bytes nat_list_cmp_total (slice_cmp-IsAntisymmetric nat_cmp-IsAntisymmetric) (present es) (entries_of t) (sorted_present es rises) (sorted_shown (entries t) (entries_sorted t))
+    (λ q.
     find_present q es rises ∙ ap kept (h.finds q) ∙ kept_is (said q)
     ∙ ap (option_map (λ v. Some v)) (sym (holds q) ∙ get-entries t q)
     ∙ sym (find_shown q (entries t)))

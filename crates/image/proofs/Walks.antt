@@ -15,7 +15,8 @@ at_place (e ∷ es) (suc i) x lt is = at_place es i x (omega arith) is
 pub next_is : {X : Type 0} (es : List X) (i : ℕ) (x : X) → i < length es → x ≡ get_or es i x → drop i es ≡ x ∷ drop (i + 1) es
 next_is es i x lt is = let next : suc i ≡ i + 1 = omega arith in at_place es i x lt is ∙ ap (λ n. x ∷ drop n es) next
 
-pub one_more : {X : Type 0} (es : List X) (i : ℕ) (x y : X) (made new : List X) → i < length es → x ≡ get_or es i x → y ≡ x → new ≡ made ++ y ∷ [] → made ++ drop i es ≡ es → new ++ drop (i + 1) es ≡ es
+pub one_more : {X : Type 0} (es : List X) (i : ℕ) (x y : X) (made new : List X) → i < length es → x ≡ get_or es i x → y ≡ x → new ≡ made ++ y ∷ [] → made ++ drop i es ≡ es →
+    new ++ drop (i + 1) es ≡ es
 one_more {X = X} es i x y made new lt is same pushed whole =
     ap (λ (l : List X). l ++ drop (i + 1) es) (pushed ∙ ap (λ z. made ++ z ∷ []) same)
     ∙ append_assoc made (x ∷ []) (drop (i + 1) es)

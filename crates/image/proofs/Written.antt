@@ -7,7 +7,7 @@ use Rattle.std.proofs.lemmas.List.{length-append, length-drop, take_all}
 use Rattle.byteorder.specs.Endian.{big_bytes}
 use Rattle.procedure.specs.Bytes.{Bytes}
 use Rattle.image.specs.Images.{Image}
-use Rattle.image.specs.ImageBytes.{header_bytes, kind_byte}
+use Rattle.image.specs.ImageBytes.{image_header_bytes, kind_byte}
 use Rattle.image.specs.declared.limits.TheConstants.{ENTRIES}
 
 -- what is written in turn stands in turn
@@ -58,8 +58,8 @@ at_err (Err e) p = p
 -- the parts of a header, one after another
 module _ (magic out o1 o2 o3 o4 o5 new : Bytes) (i : Image) (kind number base place count : ℕ) where
   pub header_written : o1 ≡ out ++ magic → o2 ≡ o1 ++ (kind ∷ []) → o3 ≡ o2 ++ big_bytes 8 number → o4 ≡ o3 ++ big_bytes 8 base → o5 ≡ o4 ++ big_bytes 8 place → new ≡ o5 ++ big_bytes 4 count →
-      kind ≡ kind_byte i.kind → number ≡ i.number → base ≡ i.base → place ≡ i.place → count ≡ length i.entries → new ≡ out ++ header_bytes magic i
-  unfolding header_bytes
+      kind ≡ kind_byte i.kind → number ≡ i.number → base ≡ i.base → place ≡ i.place → count ≡ length i.entries → new ≡ out ++ image_header_bytes magic i
+  unfolding image_header_bytes
   header_written e1 e2 e3 e4 e5 e6 is_kind is_number is_base is_place is_count =
       let m2 = magic ++ (kind ∷ []) in
       let m3 = m2 ++ big_bytes 8 number in

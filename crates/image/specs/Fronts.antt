@@ -54,9 +54,9 @@ block_at before n b = do
   if pointwise nat_eq stated.0 (sha256 (before ++ take (length b - length es.1) b)) then Some (es.0, (sha256 (before ++ take (length b - length es.1) b), stated.1)) else None
 
 -- with the entries that came before
-abbrev pub after : {R : Type 0} → List Entry → Option (List Entry × R) → Option (List Entry × R)
-after front None = None
-after front (Some x) = Some (front ++ x.0, x.1)
+abbrev pub pieces_after : {R : Type 0} → List Entry → Option (List Entry × R) → Option (List Entry × R)
+pieces_after front None = None
+pieces_after front (Some x) = Some (front ++ x.0, x.1)
 
 abbrev pub after_ok : List Entry → Result (List Entry × Bytes) ReadError → Result (List Entry × Bytes) ReadError
 after_ok front (Err e) = Err e

@@ -4,7 +4,7 @@ use Rattle.std.specs.FinMap as finite
 use Rattle.sha2.specs.Sha256.{sha256}
 use Rattle.procedure.specs.Bytes.{Bytes}
 use Rattle.procedure.specs.Table.{Changes, with_pairs}
-use Rattle.image.specs.Images.{Entry, Image, IsLawful}
+use Rattle.image.specs.Images.{Entry, Image, IsLawfulImage}
 use Rattle.image.specs.EntryBytes.{entry_bytes}
 use Rattle.image.specs.declared.images.Kind.{Kind}
 use Rattle.image.specs.declared.headers.Header.{Header}
@@ -26,8 +26,8 @@ abbrev pub map_of : List Entry → Changes
 map_of es = with_pairs finite.empty es
 
 -- no key comes twice
-abbrev pub IsOnce : List Entry → Type 0
-IsOnce es = finite.len (map_of es) ≡ length es
+abbrev pub EachKeyOnce : List Entry → Type 0
+EachKeyOnce es = finite.len (map_of es) ≡ length es
 
 -- the image of entries that come in any order, sorted by their keys
 abbrev pub of_captured : Kind → (number base place : ℕ) → List Entry → Image
@@ -38,8 +38,8 @@ abbrev pub assembled : Header → List Entry → Image
 assembled h es = of_captured h.kind h.number h.base h.place es
 
 -- a header and the entries that it was made of, in their order
-pub record Fits (h : Header) (es : List Entry) : Type 0 where
+pub record FitsHeader (h : Header) (es : List Entry) : Type 0 where
   pub count : h.count ≡ length es
   pub chain : h.chain ≡ chain_digest es
-  pub once : IsOnce es
-  pub lawful : IsLawful (assembled h es)
+  pub once : EachKeyOnce es
+  pub lawful : IsLawfulImage (assembled h es)

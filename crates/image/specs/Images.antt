@@ -35,7 +35,7 @@ abbrev pub SuitsKind : Kind → ℕ → ℕ → List Entry → Type 0
 SuitsKind Full number base es = (base ≡ number) × AllPresent es
 SuitsKind Partial number base es = base < number
 
-pub record IsLawful (i : Image) : Type 0 where
+pub record IsLawfulImage (i : Image) : Type 0 where
   pub few : length i.entries ≤ ENTRIES
   pub rises : Rises i.entries
   pub kind : SuitsKind i.kind i.number i.base i.entries

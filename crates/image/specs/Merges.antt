@@ -12,23 +12,23 @@ use Rattle.image.specs.declared.merges.MergeError.TheVariants.{TooMany, NotFull,
 use Rattle.image.specs.declared.limits.TheConstants.{ENTRIES, IMAGES}
 
 -- each is partial, with the number of the image before it as base
-abbrev pub StandOn : ℕ → List Image → Type 0
-StandOn number [] = Unit {0}
-StandOn number (p ∷ ps) = (p.kind ≡ Partial) × (p.base ≡ number) × StandOn p.number ps
+abbrev pub AreChained : ℕ → List Image → Type 0
+AreChained number [] = Unit {0}
+AreChained number (p ∷ ps) = (p.kind ≡ Partial) × (p.base ≡ number) × AreChained p.number ps
 
 -- a full image, and partial ones that stand on it in turn
 pub record IsChain (full : Image) (ps : List Image) : Type 0 where
   pub full_first : full.kind ≡ Full
-  pub partials : StandOn full.number ps
+  pub partials : AreChained full.number ps
 
 -- what a full image holds
 abbrev pub table_of : Image → Table
 table_of full = merged no_table (changes_of full)
 
 -- a table changed by partial images in turn
-abbrev pub table_after : Table → List Image → Table
-table_after t [] = t
-table_after t (p ∷ ps) = table_after (merged t (changes_of p)) ps
+abbrev pub table_with_images : Table → List Image → Table
+table_with_images t [] = t
+table_with_images t (p ∷ ps) = table_with_images (merged t (changes_of p)) ps
 
 abbrev pub last_of : Image → List Image → Image
 last_of i [] = i
@@ -36,7 +36,7 @@ last_of i (p ∷ ps) = last_of p ps
 
 -- what a chain says, as one full image with the number and place of the last
 abbrev pub merged_image : Image → List Image → Image
-merged_image full ps = full_image (last_of full ps).number (last_of full ps).place (table_after (table_of full) ps)
+merged_image full ps = full_image (last_of full ps).number (last_of full ps).place (table_with_images (table_of full) ps)
 
 abbrev pub Refusal : Type 0
 Refusal = Option MergeError
@@ -67,7 +67,7 @@ chain_refusal full ps =
 
 -- why they aren't merged, want of memory apart
 abbrev pub refusal_of : Image → List Image → Refusal
-refusal_of full ps = option_or (chain_refusal full ps) (unless (nat_le (finite.len (table_after (table_of full) ps)) ENTRIES) TooMany)
+refusal_of full ps = option_or (chain_refusal full ps) (unless (nat_le (finite.len (table_with_images (table_of full) ps)) ENTRIES) TooMany)
 
 -- a call that answers this is refused so, or for want of memory; one that succeeds is not refused
 abbrev pub Answers : {X : Type 0} → Refusal → Result X MergeError → Type 0

@@ -1,7 +1,7 @@
 -- An image that goes to a writer, or comes from a reader.
-use Rattle.std.specs.Prelude.{◌≡◌, ◌≤◌, ◌⊎◌, ℕ, zero, suc, ◌+◌, List, ◌++◌, length, take, drop, Option, Ok, Err, codes}
+use Rattle.std.specs.Prelude.{◌≡◌, ◌≤◌, ◌⊎◌, ℕ, zero, suc, ◌+◌, List, length, take, drop, Option, Ok, Err, codes}
 use Rattle.std.specs.declared.result.Result.{Result}
-use Rattle.std.specs.Io.KnownBytes.{Appends, Consumes, IsAtEnd}
+use Rattle.std.specs.Io.KnownBytes.{Consumes, IsAtEnd}
 use Rattle.procedure.specs.Bytes.{Bytes}
 use Rattle.image.specs.Images.{Entry, Image}
 use Rattle.image.specs.ImageBytes.{entries_bytes}
@@ -10,14 +10,8 @@ use Rattle.image.specs.Refusals.{IsAnswer}
 use Rattle.image.specs.Texts.{read_error_text}
 use Rattle.image.specs.declared.errors.ReadError.{ReadError}
 use Rattle.image.specs.declared.errors.ReadError.TheVariants as refused
-use Rattle.image.specs.declared.streams.WriteError.{WriteError}
-use Rattle.image.specs.declared.streams.WriteError.TheVariants as write_refused
 use Rattle.image.specs.declared.streams.ReadFromError.{ReadFromError}
 use Rattle.image.specs.declared.streams.ReadFromError.TheVariants as read_refused
-
--- what went out is a beginning of the text
-abbrev pub IsBegun : Option Bytes → Option Bytes → Bytes → Type 0
-IsBegun old new text = (out : Bytes) × (left : Bytes) × (text ≡ out ++ left) × Appends old new out
 
 -- of so many blocks each has at most this many bytes with its digest
 abbrev pub BlocksFit : ℕ → ℕ → List Entry → Type 0
@@ -45,10 +39,6 @@ TellsFrom (Err read_refused.ReadFault) answer = Unit {0}
 TellsFrom (Err (read_refused.Image e)) answer = (e ≡ refused.NoMemory) ⊎ (answer ≡ Err e)
 
 -- what is printed of a refusal
-abbrev pub write_error_text : WriteError → Bytes
-write_error_text write_refused.WriteFault = codes "write fault"
-write_error_text write_refused.NoMemory = codes "no memory"
-
 abbrev pub read_from_error_text : ReadFromError → Bytes
 read_from_error_text read_refused.ReadFault = codes "read fault"
 read_from_error_text (read_refused.Image e) = read_error_text e

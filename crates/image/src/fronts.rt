@@ -10,7 +10,7 @@ use crate::errors::ReadError;
 use crate::limits::BLOCK;
 use byteorder::{BigEndian, ByteOrder};
 use procedure::NoMemory;
-use sha2::{Digest, Sha256};
+use procedure::bytes::chained_digest;
 use std::alloc::Allocator;
 use std::marker::Model;
 
@@ -73,16 +73,6 @@ fn entry_at<'a>(bytes: &'a [u8]) -> Option<(Piece<'a>, &'a [u8])>
     Some((Piece { key, cell }, rest))
 }
 
-/// The digest of bytes behind another digest.
-pub(crate) fn digest_of(before: &[u8; 32], bytes: &[u8]) -> [u8; 32]
-    ensures { result ≡ sha256 (before.now ++ bytes.now) }
-{
-    let mut hasher = Sha256::new();
-    hasher.update(before.as_slice());
-    hasher.update(bytes);
-    hasher.finalize()
-}
-
 /// So many entries, which are put behind those found before, and what stands after them; None where
 /// they aren't wholly there, or a tag is neither 0 nor 1.
 pub(crate) fn entries_at<'a, A: Allocator>(
@@ -90,7 +80,7 @@ pub(crate) fn entries_at<'a, A: Allocator>(
     count: usize,
     bytes: &'a [u8],
 ) -> Result<Option<&'a [u8]>, NoMemory>
-    ensures { IfOk result (λ rest. option_map (λ r. (found.new.items, r.now)) rest ≡ spec.after found.old.items (spec.entries_at count bytes.now)) }
+    ensures { IfOk result (λ rest. option_map (λ r. (found.new.items, r.now)) rest ≡ spec.pieces_after found.old.items (spec.entries_at count bytes.now)) }
 {
     let mut rest = bytes;
     for _ in 0..count {
@@ -113,7 +103,7 @@ fn block_at<'a, A: Allocator>(
     count: usize,
     bytes: &'a [u8],
 ) -> Result<Option<&'a [u8]>, NoMemory>
-    ensures { IfOk result (λ rest. option_map (λ r. (found.new.items, (digest.new, r.now))) rest ≡ spec.after found.old.items (spec.block_at digest.old count bytes.now)) }
+    ensures { IfOk result (λ rest. option_map (λ r. (found.new.items, (digest.new, r.now))) rest ≡ spec.pieces_after found.old.items (spec.block_at digest.old count bytes.now)) }
 {
     let Some(behind) = entries_at(found, count, bytes)? else {
         return Ok(None);
@@ -121,7 +111,7 @@ fn block_at<'a, A: Allocator>(
     let Some((stated, rest)) = parted(behind, 32) else {
         return Ok(None);
     };
-    *digest = digest_of(digest, &bytes[..bytes.len() - behind.len()]);
+    *digest = chained_digest(digest, &bytes[..bytes.len() - behind.len()]);
     if stated != digest.as_slice() {
         return Ok(None);
     }

@@ -3,7 +3,7 @@
 ghost use Rattle.std.specs.Prelude.{◌≡◌, Err, IfOk, OnOk};
 ghost use Rattle.std.specs.FinMap as finite;
 ghost use Rattle.byteorder.specs.Endian.{big_bytes};
-ghost use Rattle.image.specs.Headers.{Fits, assembled, chain_digest, linked, map_of};
+ghost use Rattle.image.specs.Headers.{FitsHeader, assembled, chain_digest, linked, map_of};
 ghost use Rattle.image.specs.declared.headers.AssembleError.TheVariants as refused;
 
 use crate::entries::Entry;
@@ -177,8 +177,8 @@ pub fn assemble<A: Allocator + Clone>(
     entries: &[Entry<A>],
 ) -> Result<Image<A>, AssembleError>
     ensures value { IfOk result (λ i. i ≡ assembled header.now entries.now) }
-    ensures fits { OnOk result (Fits header.now entries.now) }
-    ensures bad_form { result ≡ Err refused.BadForm → Fits header.now entries.now → ⊥ }
+    ensures fits { OnOk result (FitsHeader header.now entries.now) }
+    ensures bad_form { result ≡ Err refused.BadForm → FitsHeader header.now entries.now → ⊥ }
 {
     if header.count != entries.len() || header.chain != chain_of(entries) {
         return Err(AssembleError::BadForm);

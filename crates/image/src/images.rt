@@ -3,8 +3,8 @@
 ghost use Rattle.std.specs.Prelude.{◌≡◌, ◌<◌, ◌↔◌, Err, IfOk, IfSome, IsSome, IsTrue, map, option_copied};
 ghost use Rattle.procedure.specs.Table.{change_at};
 ghost use Rattle.std.specs.FinMap as finite;
-ghost use Rattle.image.specs.Images.{Image, IsLawful, SuitsKind, changes_of, entries_of, full_image};
-ghost use Rattle.image.specs.Headers.{IsOnce, of_captured};
+ghost use Rattle.image.specs.Images.{Image, IsLawfulImage, SuitsKind, changes_of, entries_of, full_image};
+ghost use Rattle.image.specs.Headers.{EachKeyOnce, of_captured};
 ghost use Rattle.image.specs.Openings.{is_opening};
 ghost use Rattle.image.specs.declared.images.Kind.TheVariants.{Full};
 ghost use Rattle.image.specs.declared.images.OpeningError.TheVariants as refused;
@@ -46,12 +46,12 @@ impl<A: Allocator> Model for Image<A> {
 
     ghost Value = { Image };
 
-    ghost use Rattle.image.specs.Images.{IsLawful};
+    ghost use Rattle.image.specs.Images.{IsLawfulImage};
     ghost use Rattle.image.specs.Views.{image_of};
 
     ghost view = { image_of };
 
-    ghost invariant = { λ i. IsLawful (image_of i) };
+    ghost invariant = { λ i. IsLawfulImage (image_of i) };
 }
 
 /// Why a table is no opening image.
@@ -109,7 +109,7 @@ impl<A: Allocator> Image<A> {
         entries: Vec<Entry<A>, A>,
     ) -> Option<Self>
         ensures value { IfSome result (λ i. i ≡ record { kind = kind; number = number; base = base; place = place; entries = entries.items }) }
-        ensures lawful { IsSome result ↔ IsLawful (record { kind = kind; number = number; base = base; place = place; entries = entries.items }) }
+        ensures lawful { IsSome result ↔ IsLawfulImage (record { kind = kind; number = number; base = base; place = place; entries = entries.items }) }
     {
         if entries.len() > ENTRIES
             || !keys_rise(entries.as_slice())
@@ -136,7 +136,7 @@ impl<A: Allocator> Image<A> {
         mut entries: Vec<Entry<A>, A>,
     ) -> Option<Self>
         ensures value { IfSome result (λ i. i ≡ of_captured kind number base place entries.items) }
-        ensures lawful { IsSome result ↔ (IsOnce entries.items × IsLawful (of_captured kind number base place entries.items)) }
+        ensures lawful { IsSome result ↔ (EachKeyOnce entries.items × IsLawfulImage (of_captured kind number base place entries.items)) }
     {
         sort_by_keys(&mut entries);
         Image::new(kind, number, base, place, entries)
@@ -181,7 +181,7 @@ impl<A: Allocator> Image<A> {
     /// The entries, in the byte order of their keys.
     pub fn entries(&self) -> &[Entry<A>]
         ensures value { result.now ≡ self.now.entries }
-        ensures lawful { IsLawful self.now }
+        ensures lawful { IsLawfulImage self.now }
     {
         self.entries.as_slice()
     }
@@ -207,7 +207,7 @@ impl<A: Allocator> Image<A> {
 
 /// A full image, of parts that are lawful.
 pub(crate) fn full_of<A: Allocator>(number: u64, place: u64, entries: Vec<Entry<A>, A>) -> Image<A>
-    requires { IsLawful (record { kind = Full; number = number; base = number; place = place; entries = entries.items }) }
+    requires { IsLawfulImage (record { kind = Full; number = number; base = number; place = place; entries = entries.items }) }
     ensures { result ≡ record { kind = Full; number = number; base = number; place = place; entries = entries.items } }
 {
     Image {

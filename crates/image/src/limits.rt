@@ -10,7 +10,7 @@ pub const IMAGES: usize = 64;
 pub const BLOCK: usize = 64;
 
 /// Bytes of a value in version 1.
-pub const FIRST_VALUE_BYTES: usize = 256;
+pub const VALUE_BYTES_V1: usize = 256;
 
 /// Bytes of an image without entries.
 pub const SHORTEST: usize = 69;

@@ -16,8 +16,8 @@ use crate::entries::Entry;
 use crate::errors::ReadError;
 use crate::fronts::{Piece, blocks_at, entries_at};
 use crate::images::{Image, Kind};
-use crate::limits::{FIRST_VALUE_BYTES, SHORTEST};
-use crate::sealing::{FIRST, SECOND};
+use crate::limits::{SHORTEST, VALUE_BYTES_V1};
+use crate::sealing::{MAGIC_V1, MAGIC_V2};
 use byteorder::{BigEndian, ByteOrder};
 use procedure::limits::VALUE_BYTES;
 use procedure::{Key, Value};
@@ -177,10 +177,10 @@ fn image_of<A: Allocator + Clone>(
 /// The image of bytes in version 1.
 fn read_first<A: Allocator + Clone>(alloc: A, bytes: &[u8]) -> Result<Image<A>, ReadError>
     requires { 69 ≤ length bytes.now }
-    ensures { Judges FIRST_VALUE_BYTES bytes.now (first_entries bytes.now) result }
+    ensures { Judges VALUE_BYTES_V1 bytes.now (first_entries bytes.now) result }
 {
     let pieces = first_pieces(alloc.clone()?, bytes)?;
-    image_of(alloc, FIRST_VALUE_BYTES, bytes, pieces.as_slice())
+    image_of(alloc, VALUE_BYTES_V1, bytes, pieces.as_slice())
 }
 
 /// The image of bytes in version 2.
@@ -204,10 +204,10 @@ pub fn read_image<A: Allocator + Clone>(alloc: A, bytes: &[u8]) -> Result<Image<
         return Err(ReadError::NotAnImage);
     }
     let (magic, _) = bytes.split_at(8);
-    if magic == FIRST.as_slice() {
+    if magic == MAGIC_V1.as_slice() {
         return read_first(alloc, bytes);
     }
-    if magic == SECOND.as_slice() {
+    if magic == MAGIC_V2.as_slice() {
         return read_second(alloc, bytes);
     }
     Err(ReadError::NotAnImage)

@@ -7,52 +7,23 @@ ghost use Rattle.byteorder.specs.Endian.{big_bytes};
 ghost use Rattle.sha2.specs.Sha256.{sha256};
 ghost use Rattle.procedure.specs.declared.limits.TheConstants.{VALUE_BYTES};
 ghost use Rattle.image.specs.EntryBytes.{entry_bytes};
-ghost use Rattle.image.specs.ImageBytes.{HasNumbers, HasSmallValues, IsVersion1, IsVersion2, IsWithin, block_bytes, block_count, block_digest, blocks_bytes, entries_bytes, header_bytes, signed, version_1};
+ghost use Rattle.image.specs.ImageBytes.{HasNumbers, HasSmallValues, IsVersion1, IsVersion2, IsWithin, block_bytes, block_count, block_digest, blocks_bytes, entries_bytes, image_header_bytes, signed, version_1};
 ghost use Rattle.image.specs.declared.errors.SealError.TheVariants as refused;
 
 use crate::entries::Entry;
 use crate::errors::SealError;
-use crate::fronts::digest_of;
 use crate::images::{Image, Kind};
-use crate::limits::{BLOCK, FIRST_VALUE_BYTES};
-use byteorder::{BigEndian, ByteOrder};
+use crate::limits::{BLOCK, VALUE_BYTES_V1};
 use procedure::NoMemory;
+use procedure::bytes::{chained_digest, write_u16, write_u32, write_u64};
 use sha2::{Digest, Sha256};
 use std::alloc::Allocator;
 
 /// With what the bytes of version 1 begin.
-pub const FIRST: [u8; 8] = *b"CALCIMG1";
+pub const MAGIC_V1: [u8; 8] = *b"CALCIMG1";
 
 /// With what the bytes of version 2 begin.
-pub const SECOND: [u8; 8] = *b"CALCIMG2";
-
-fn write_u16<A: Allocator>(out: &mut Vec<u8, A>, number: u16) -> Result<(), NoMemory>
-    ensures bytes { OnOk result (out.new.items ≡ out.old.items ++ big_bytes 2 number) }
-    ensures capacity { vec_capacity out.old ≤ vec_capacity out.new }
-    ensures full { OnErr result (vec_capacity out.old < vec_len out.old + 2) }
-{
-    let mut bytes = [0u8; 2];
-    BigEndian::write_u16(&mut bytes, number);
-    Ok(out.extend_from_slice(&bytes)?)
-}
-
-fn write_u32<A: Allocator>(out: &mut Vec<u8, A>, number: u32) -> Result<(), NoMemory>
-    ensures bytes { OnOk result (out.new.items ≡ out.old.items ++ big_bytes 4 number) }
-    ensures capacity { vec_capacity out.old ≤ vec_capacity out.new }
-{
-    let mut bytes = [0u8; 4];
-    BigEndian::write_u32(&mut bytes, number);
-    Ok(out.extend_from_slice(&bytes)?)
-}
-
-fn write_u64<A: Allocator>(out: &mut Vec<u8, A>, number: u64) -> Result<(), NoMemory>
-    ensures bytes { OnOk result (out.new.items ≡ out.old.items ++ big_bytes 8 number) }
-    ensures capacity { vec_capacity out.old ≤ vec_capacity out.new }
-{
-    let mut bytes = [0u8; 8];
-    BigEndian::write_u64(&mut bytes, number);
-    Ok(out.extend_from_slice(&bytes)?)
-}
+pub const MAGIC_V2: [u8; 8] = *b"CALCIMG2";
 
 fn write_entry<A: Allocator, B: Allocator>(
     out: &mut Vec<u8, B>,
@@ -107,7 +78,7 @@ fn write_header<A: Allocator, B: Allocator>(
     magic: &[u8; 8],
     image: &Image<A>,
 ) -> Result<(), NoMemory>
-    ensures bytes { OnOk result (out.new.items ≡ out.old.items ++ header_bytes magic.now image.now) }
+    ensures bytes { OnOk result (out.new.items ≡ out.old.items ++ image_header_bytes magic.now image.now) }
     ensures fits { OnOk result (HasNumbers image.now) }
     ensures capacity { vec_capacity out.old ≤ vec_capacity out.new }
 {
@@ -124,13 +95,13 @@ pub(crate) fn write_signed_header<A: Allocator, B: Allocator>(
     out: &mut Vec<u8, B>,
     image: &Image<A>,
 ) -> Result<[u8; 32], NoMemory>
-    ensures bytes { OnOk result (out.new.items ≡ out.old.items ++ signed (header_bytes SECOND image.now)) }
-    ensures digest { IfOk result (λ d. d ≡ sha256 (header_bytes SECOND image.now)) }
+    ensures bytes { OnOk result (out.new.items ≡ out.old.items ++ signed (image_header_bytes MAGIC_V2 image.now)) }
+    ensures digest { IfOk result (λ d. d ≡ sha256 (image_header_bytes MAGIC_V2 image.now)) }
     ensures fits { OnOk result (HasNumbers image.now) }
     ensures capacity { vec_capacity out.old ≤ vec_capacity out.new }
 {
     let start = out.len();
-    write_header(out, &SECOND, image)?;
+    write_header(out, &MAGIC_V2, image)?;
     let digest = Sha256::digest(&out[start..]);
     out.extend_from_slice(&digest)?;
     Ok(digest)
@@ -150,7 +121,7 @@ pub(crate) fn write_block<A: Allocator, B: Allocator>(
 {
     let start = out.len();
     write_entries(out, entries)?;
-    let digest = digest_of(before, &out[start..]);
+    let digest = chained_digest(before, &out[start..]);
     out.extend_from_slice(&digest)?;
     Ok(digest)
 }
@@ -195,22 +166,22 @@ pub fn seal<A: Allocator>(alloc: A, image: &Image<A>) -> Result<Vec<u8, A>, NoMe
 }
 
 fn is_small<A: Allocator>(entry: &Entry<A>) -> bool
-    ensures { IsTrue result ↔ IfSome entry.now.1 (λ v. length v ≤ FIRST_VALUE_BYTES) }
+    ensures { IsTrue result ↔ IfSome entry.now.1 (λ v. length v ≤ VALUE_BYTES_V1) }
 {
     match &entry.cell {
         None => true,
-        Some(value) => value.as_bytes().len() <= FIRST_VALUE_BYTES,
+        Some(value) => value.as_bytes().len() <= VALUE_BYTES_V1,
     }
 }
 
 fn are_small<A: Allocator>(entries: &[Entry<A>]) -> bool
-    ensures { IsTrue result ↔ All (λ e. IfSome e.1 (λ v. length v ≤ FIRST_VALUE_BYTES)) entries.now }
+    ensures { IsTrue result ↔ All (λ e. IfSome e.1 (λ v. length v ≤ VALUE_BYTES_V1)) entries.now }
 {
     entries.iter().all(|entry| is_small(entry))
 }
 
 /// Header and entries of version 1, and their digest.
-fn write_first<A: Allocator, B: Allocator>(
+fn write_v1<A: Allocator, B: Allocator>(
     out: &mut Vec<u8, B>,
     image: &Image<A>,
 ) -> Result<(), NoMemory>
@@ -219,7 +190,7 @@ fn write_first<A: Allocator, B: Allocator>(
     ensures entries { OnOk result (AllByRecursion (IsWithin VALUE_BYTES) image.now.entries) }
 {
     let start = out.len();
-    write_header(out, &FIRST, image)?;
+    write_header(out, &MAGIC_V1, image)?;
     write_entries(out, image.entries())?;
     let digest = Sha256::digest(&out[start..]);
     Ok(out.extend_from_slice(&digest)?)
@@ -234,6 +205,6 @@ pub fn seal_v1<A: Allocator>(alloc: A, image: &Image<A>) -> Result<Vec<u8, A>, S
         return Err(SealError::TooLarge);
     }
     let mut out = Vec::new(alloc);
-    write_first(&mut out, image)?;
+    write_v1(&mut out, image)?;
     Ok(out)
 }

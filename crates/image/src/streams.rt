@@ -13,65 +13,21 @@ ghost use Rattle.image.specs.Images.{Image as SpecImage};
 ghost use Rattle.image.specs.ImageBytes.{IsWithin, IsWritable, block_bytes, block_count, block_digest, blocks_bytes, entries_bytes, version_2};
 ghost use Rattle.image.specs.Refusals.{IsAnswer};
 ghost use Rattle.image.specs.declared.errors.ReadError.{ReadError as SpecReadError};
-ghost use Rattle.image.specs.declared.streams.WriteError.TheVariants as write_refused;
-ghost use Rattle.image.specs.Streams.{BlocksFit, IsAnswerFrom, IsBegun, IsUnread, TellsFrom};
+ghost use Rattle.procedure.specs.declared.streams.WriteError.TheVariants as write_refused;
+ghost use Rattle.procedure.specs.Streams.{IsBegun};
+ghost use Rattle.image.specs.Streams.{BlocksFit, IsAnswerFrom, IsUnread, TellsFrom};
 
 use crate::entries::Entry;
 use crate::errors::ReadError;
 use crate::images::Image;
 use crate::reading::read_image;
 use crate::sealing::{first_block, write_block, write_signed_header};
-use procedure::NoMemory;
+pub use procedure::streams::WriteError;
+use procedure::streams::{Unread, read_all, write_out};
 use std::alloc::{AllocError, Allocator};
 use std::error::Error;
 use std::fmt;
 use std::io::{Read, Write};
-
-/// Why an image isn't written whole.
-#[derive(Clone, Copy, Debug, PartialEq, Eq)]
-pub enum WriteError {
-    /// A write failed, or took no byte.
-    WriteFault,
-    NoMemory,
-}
-
-impl fmt::Display for WriteError {
-    ghost use Rattle.std.specs.Prelude.{Some};
-    ghost use Rattle.image.specs.Streams.{write_error_text};
-
-    ghost output = { λ e. Some (write_error_text e) };
-
-    fn fmt<W: fmt::Write>(&self, f: &mut fmt::Formatter<W>) -> fmt::Result {
-        f.write_str(match self {
-            WriteError::WriteFault => "write fault",
-            WriteError::NoMemory => "no memory",
-        })
-    }
-}
-
-impl Error for WriteError {}
-
-impl From<NoMemory> for WriteError {
-    ghost use Rattle.std.specs.Prelude.{◌≡◌};
-    ghost use Rattle.image.specs.declared.streams.WriteError.TheVariants as write_refused;
-
-    ghost from_gives = { λ _ e. e ≡ write_refused.NoMemory };
-
-    fn from(_refused: NoMemory) -> Self {
-        WriteError::NoMemory
-    }
-}
-
-impl From<AllocError> for WriteError {
-    ghost use Rattle.std.specs.Prelude.{◌≡◌};
-    ghost use Rattle.image.specs.declared.streams.WriteError.TheVariants as write_refused;
-
-    ghost from_gives = { λ _ e. e ≡ write_refused.NoMemory };
-
-    fn from(_refused: AllocError) -> Self {
-        WriteError::NoMemory
-    }
-}
 
 /// Why an image isn't read from a reader.
 #[derive(Clone, Copy, Debug, PartialEq, Eq)]
@@ -98,6 +54,19 @@ impl fmt::Display for ReadFromError {
 
 impl Error for ReadFromError {}
 
+impl From<Unread> for ReadFromError {
+    ghost use Rattle.image.specs.Streams.{IsUnread};
+
+    ghost from_gives = { λ _ e. IsUnread e };
+
+    fn from(unread: Unread) -> Self {
+        match unread {
+            Unread::ReadFault => ReadFromError::ReadFault,
+            Unread::NoMemory => ReadFromError::Image(ReadError::NoMemory),
+        }
+    }
+}
+
 impl From<AllocError> for ReadFromError {
     ghost use Rattle.std.specs.Prelude.{◌≡◌};
     ghost use Rattle.image.specs.declared.errors.ReadError.TheVariants as refused;
@@ -108,27 +77,6 @@ impl From<AllocError> for ReadFromError {
     fn from(_refused: AllocError) -> Self {
         ReadFromError::Image(ReadError::NoMemory)
     }
-}
-
-/// Writes all of the bytes; the first write that fails ends it, an interrupted one too.
-fn write_out<W: Write>(writer: &mut W, bytes: &[u8]) -> Result<(), WriteError>
-    ensures ok { OnOk result (Appends (W.contents writer.old) (W.contents writer.new) bytes.now) }
-    ensures err { OnErr result (IsBegun (W.contents writer.old) (W.contents writer.new) bytes.now) }
-    ensures fault { IfErr result (λ e. e ≡ write_refused.WriteFault) }
-{
-    let mut rest = bytes;
-    while !rest.is_empty() {
-        let taken = match writer.write(rest) {
-            Ok(taken) => taken,
-            Err(_) => return Err(WriteError::WriteFault),
-        };
-        if taken == 0 {
-            return Err(WriteError::WriteFault);
-        }
-        let (_taken, left) = rest.split_at(taken);
-        rest = left;
-    }
-    Ok(())
 }
 
 /// How many bytes an entry has: its key, its value, and four for their lengths and the tag.
@@ -230,29 +178,6 @@ pub fn seal_to<W: Write, A: Allocator>(
     let digest = write_signed_header(&mut buffer, image)?;
     write_out(writer, buffer.as_slice())?;
     write_out_blocks(writer, &mut buffer, digest, image.entries())
-}
-
-/// What a read takes at most.
-const CHUNK: usize = 4096;
-
-/// All that the reader gives; the first read that fails ends it, an interrupted one too.
-fn read_all<R: Read, A: Allocator>(alloc: A, reader: &mut R) -> Result<Vec<u8, A>, ReadFromError>
-    ensures read { IfOk result (λ text. Consumes (R.remaining reader.old) (R.remaining reader.new) text.items) }
-    ensures end { OnOk result (IsAtEnd (R.remaining reader.new)) }
-    ensures err { IfErr result (λ e. IsUnread e) }
-{
-    let mut text = Vec::new(alloc);
-    let mut chunk = [0; CHUNK];
-    loop {
-        let given = match reader.read(&mut chunk) {
-            Ok(given) => given,
-            Err(_) => return Err(ReadFromError::ReadFault),
-        };
-        if given == 0 {
-            return Ok(text);
-        }
-        text.extend_from_slice(&chunk[..given])?;
-    }
 }
 
 /// Reads an image as `read_image` reads all that the reader gives.

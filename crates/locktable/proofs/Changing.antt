@@ -11,7 +11,8 @@ use Rattle.locktable.specs.Changes.{ChangesOneLock, ReleasesOneSession}
 use Rattle.locktable.proofs.Lookups.{by_bytes, get-with_entry_same, get-with_entry_other}
 use Rattle.locktable.proofs.Tables.{mode_of-set}
 
-other_key : (locks : Locks) (session : ℕ) (key : Bytes) (mode : Option Mode) → session < length locks → (s : ℕ) (k : Bytes) → k ≢ key → mode_of (with_lock locks session key mode) s k ≡ mode_of locks s k
+other_key : (locks : Locks) (session : ℕ) (key : Bytes) (mode : Option Mode) → session < length locks → (s : ℕ) (k : Bytes) → k ≢ key →
+    mode_of (with_lock locks session key mode) s k ≡ mode_of locks s k
 other_key locks session key mode within s k ne =
     mode_of-set locks session (with_entry (locks_of locks session) key mode) s k within
     ∙ elim (keys k key) [

@@ -47,7 +47,8 @@ unfolding same
 get-with_entry_other m k v q f = get-with_entry m k v q ∙ ap (λ b. cond b v (get m q)) f
 
 -- an insert or a removal in the one is that in the other
-pub index-with_entry : {X : Type 0} (es fs : List (Bytes × X)) (k : Bytes) (v : Option X) → ((q : Bytes) → at_key fs q ≡ cond (pointwise nat_eq k q) v (at_key es q)) → map_of fs ≡ with_entry (map_of es) k v
+pub index-with_entry : {X : Type 0} (es fs : List (Bytes × X)) (k : Bytes) (v : Option X) → ((q : Bytes) → at_key fs q ≡ cond (pointwise nat_eq k q) v (at_key es q)) →
+    map_of fs ≡ with_entry (map_of es) k v
 index-with_entry es fs k v h =
     same_key_map _ _ (λ q.
     get-index fs q ∙ h q

@@ -124,5 +124,6 @@ none_refuses m k fits h none r =
 pub other_refuses : (m k : ℕ) → m < 2 ^ 64 → k < 64 → 0 < others m k → Refuses (Some (Readers m)) k Exclusive
 other_refuses m k fits h some =
     let one = some_reader (others m k) (others_fit m k fits) some in
-    let other : one.0 ≢ k = λ e. let here : says (bit_at (others m k) one.0) ≡ None = ap (λ n. says (bit_at (others m k) n)) e ∙ others_here m k h in let there : says (bit_at (others m k) one.0) ≡ Some one.1 = one.2 in cc in
+    let other : one.0 ≢ k = λ e. let here : says (bit_at (others m k) one.0) ≡ None = ap (λ n. says (bit_at (others m k) n)) e ∙ others_here m k h in
+    let there : says (bit_at (others m k) one.0) ≡ Some one.1 = one.2 in cc in
     (one.0, one.1, other, sym (others_there m k one.0 fits h other) ∙ one.2, tt)

@@ -23,7 +23,8 @@ locks_of-locks_in held s d h = get_or-map (λ (i : Index Mode). i.entries) held 
 pub mode_of-set : (locks : Locks) (s : ℕ) (m : KeyMap Mode) (r : ℕ) (q : Bytes) → s < length locks → mode_of (slice_set locks s m) r q ≡ cond (eqb r s) (get m q) (mode_of locks r q)
 mode_of-set locks s m r q h =
     elim (eqb_tells r s) [
-      | inl e ↦ ap (λ n. get (get_or (slice_set locks s m) n empty) q) e.1 ∙ ap (λ (own : KeyMap Mode). get own q) (get_or-set_same locks s m empty h) ∙ ap (λ b. cond b (get m q) (mode_of locks r q)) (sym e.0)
+      | inl e ↦ ap (λ n. get (get_or (slice_set locks s m) n empty) q) e.1 ∙ ap (λ (own : KeyMap Mode). get own q) (get_or-set_same locks s m empty h) ∙
+          ap (λ b. cond b (get m q) (mode_of locks r q)) (sym e.0)
       | inr e ↦ ap (λ (own : KeyMap Mode). get own q) (get_or-set_other locks s r m empty e.1) ∙ ap (λ b. cond b (get m q) (mode_of locks r q)) (sym e.0)
     ]
 
@@ -209,7 +210,8 @@ if_some (Some t) h those e = let one : t ≡ those = cc in subst IsHeld one h
 
 -- who asks for more than it has is granted what it asked for
 pub granted_as_asked : (holders : Index Holders) (held : List (Index Mode)) → IsSound holders held → (before : Option Holders) (those : Holders) (s : ℕ) (k : Bytes) (mode : Mode)
-    → before ≡ get holders.entries k → (KeepsAsked (mode_of (locks_in held) s k) mode → ⊥) → ChangesTo before (Some those) s (Some (stronger (mode_among before s) mode)) → ChangesTo (get holders.entries k) (Some those) s (Some mode)
+    → before ≡ get holders.entries k → (KeepsAsked (mode_of (locks_in held) s k) mode → ⊥) → ChangesTo before (Some those) s (Some (stronger (mode_among before s) mode)) →
+    ChangesTo (get holders.entries k) (Some those) s (Some mode)
 granted_as_asked holders held sound before those s k mode here more changes =
     let own : mode_among before s ≡ mode_of (locks_in held) s k = ap (λ o. mode_among o s) here ∙ sym (sound.same k s) in
     let as_asked = asked_is_stronger (mode_among before s) mode (λ keeps. more (subst (λ o. KeepsAsked o mode) own keeps)) in

@@ -72,10 +72,13 @@ module _ (xs : Starts) (c : Counts) (k : IsCounted xs c) where
 
   pub may_leave : (p : Phase) → HasNoOthers c p ↔ MayLeave p xs
   may_leave Rest = (λ h. h, λ h. h)
-  may_leave Prepare = (all_prepare, λ h. (none Prepare Rest _ k.rest refl h, none Prepare Resolve _ k.resolve refl h, none Prepare Capture _ k.capture refl h, none Prepare Complete _ k.complete refl h))
-  may_leave Resolve = (all_resolve, λ h. (none Resolve Rest _ k.rest refl h, none Resolve Prepare _ k.prepare refl h, none Resolve Capture _ k.capture refl h, none Resolve Complete _ k.complete refl h))
+  may_leave Prepare =
+      (all_prepare, λ h. (none Prepare Rest _ k.rest refl h, none Prepare Resolve _ k.resolve refl h, none Prepare Capture _ k.capture refl h, none Prepare Complete _ k.complete refl h))
+  may_leave Resolve =
+      (all_resolve, λ h. (none Resolve Rest _ k.rest refl h, none Resolve Prepare _ k.prepare refl h, none Resolve Capture _ k.capture refl h, none Resolve Complete _ k.complete refl h))
   may_leave Capture = (λ h. h, λ h. h)
-  may_leave Complete = (all_complete, λ h. (none Complete Rest _ k.rest refl h, none Complete Prepare _ k.prepare refl h, none Complete Resolve _ k.resolve refl h, none Complete Capture _ k.capture refl h))
+  may_leave Complete =
+      (all_complete, λ h. (none Complete Rest _ k.rest refl h, none Complete Prepare _ k.prepare refl h, none Complete Resolve _ k.resolve refl h, none Complete Capture _ k.capture refl h))
 
 -- no count is over the number of sessions
 one_at_most : (p : Phase) (x : Option Phase) → counts_one p x ≤ 1

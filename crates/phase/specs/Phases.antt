@@ -28,9 +28,9 @@ MayLeave Capture starts = Unit {0}
 MayLeave Complete starts = AllStartedIn Complete starts
 
 -- an open call's start phase is rest from now on
-abbrev pub at_rest : Option Phase → Option Phase
-at_rest None = None
-at_rest (Some p) = Some Rest
+abbrev pub restarted_phase : Option Phase → Option Phase
+restarted_phase None = None
+restarted_phase (Some p) = Some Rest
 
 -- the name of a phase
 abbrev pub phase_text : Phase → List ℕ

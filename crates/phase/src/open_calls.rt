@@ -1,7 +1,7 @@
 //! The open calls of the sessions, by the phases in which they started.
 
 ghost use Rattle.std.specs.Prelude.{◌≡◌, ◌<◌, ◌↔◌, None, Some, IsOk, codes, length, map, replicate, slice_get, slice_index_or, slice_set, Option};
-ghost use Rattle.phase.specs.Phases.{MayLeave, Phase, at_rest};
+ghost use Rattle.phase.specs.Phases.{MayLeave, Phase, restarted_phase};
 
 use crate::counts::Counts;
 use crate::phases::Phase;
@@ -65,15 +65,6 @@ impl Active {
         starts.len()
     }
 
-    /// The start phase of a session's open call; None where none is open.
-    pub fn start(&self, session: usize) -> Option<Phase>
-        requires { session < SESSIONS }
-        ensures { Some result ≡ slice_get self.now session }
-    {
-        let start = self.starts[session];
-        start
-    }
-
     /// A session's call is open, and started in this phase.
     pub fn set(&mut self, session: usize, phase: Phase)
         requires { session < SESSIONS }
@@ -107,7 +98,7 @@ impl Active {
 
     /// Every open call's start phase is rest from now on, as where a checkpoint is abandoned.
     pub fn restart(&mut self)
-        ensures { self.new ≡ map at_rest self.old }
+        ensures { self.new ≡ map restarted_phase self.old }
     {
         let sessions = self.sessions();
         for session in 0..sessions {
@@ -117,7 +108,7 @@ impl Active {
 
     fn restart_call(&mut self, session: usize)
         requires { session < SESSIONS }
-        ensures { (d : Option Phase) → self.new ≡ slice_set self.old session (at_rest (slice_index_or self.old session d)) }
+        ensures { (d : Option Phase) → self.new ≡ slice_set self.old session (restarted_phase (slice_index_or self.old session d)) }
     {
         match self.starts[session] {
             Some(_) => self.set(session, Phase::Rest),

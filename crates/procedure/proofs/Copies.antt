@@ -6,7 +6,7 @@ use Rattle.procedure.specs.Table.{Table, value_at, change_at, changed_or, merged
 use Rattle.procedure.specs.Needs.{Touch, Nothing, Reads, Writes}
 use Rattle.procedure.specs.Procedures.{Instruction, touch, Effect, effect}
 use Rattle.procedure.specs.Runs.{no_keys, Front, whole, front, fed, fed_at, did, next_touch, touch_at, seen_at, fresh, has_ended, is_nil, changes_after, rest_after}
-use Rattle.procedure.specs.Copies.{Copy, held, table_after, written_after, copy_after, carried_out, copy_of, run_of, run, IsRun, RunsWhole}
+use Rattle.procedure.specs.Copies.{Copy, held_in_copy, table_touched, written_after, copy_after, carried_out, copy_of, run_of, run, IsRun, RunsWhole}
 use Rattle.procedure.proofs.Base.{change_at-none, change_at-with, value_at-merged, value_at-with, same_table, merged-no_changes}
 use Rattle.procedure.proofs.Ending.{fed_ended}
 
@@ -42,12 +42,13 @@ module _ (args : List Bytes) (t : Table) where
     table : (q : Bytes) → changed_or (change_at m.changes q) (value_at t q) ≡ value_at s.table q
     written : (q : Bytes) → is_some (change_at m.changes q) ≡ s.written q
 
-  held_seen : (m : Front) (s : Copy) → Alike m s → (n : Touch) → seen_at m.changes t n ≡ held s.table n
+  held_seen : (m : Front) (s : Copy) → Alike m s → (n : Touch) → seen_at m.changes t n ≡ held_in_copy s.table n
   held_seen m s a Nothing = refl
   held_seen m s a (Reads k) = a.table k
   held_seen m s a (Writes k) = a.table k
 
-  became : (m : Front) (s : Copy) → Alike m s → (n : Touch) (x : Option Cell) (q : Bytes) → changed_or (change_at (changes_after n x m.changes) q) (value_at t q) ≡ value_at (table_after s.table n x) q
+  became : (m : Front) (s : Copy) → Alike m s → (n : Touch) (x : Option Cell) (q : Bytes) →
+      changed_or (change_at (changes_after n x m.changes) q) (value_at t q) ≡ value_at (table_touched s.table n x) q
   unfolding same
   became m s a Nothing x q = a.table q
   became m s a (Reads k) x q = a.table q
@@ -73,12 +74,12 @@ module _ (args : List Bytes) (t : Table) where
   step_alike m s a e n is c h = record { registers = refl; replies = ap (λ r. r ++ e.reply) a.replies; outcome = h; table = became m s a n e.becomes; written = became_written m s a n e.becomes }
 
   once_is : (m : Front) (s : Copy) → Alike m s → (i : Instruction) (is : List Instruction) → m.rest ≡ i ∷ is →
-      once m ≡ did (effect i args s.registers (held s.table (touch i args s.registers))) (touch i args s.registers) is m
+      once m ≡ did (effect i args s.registers (held_in_copy s.table (touch i args s.registers))) (touch i args s.registers) is m
   unfolding fed next_touch
   once_is m s a i is e =
       (λ j. fed_at args m (seen_at m.changes t (touch_at args m (e j))) (e j))
       ∙ ap (λ x. did (effect i args m.registers x) (touch i args m.registers) is m) (held_seen m s a (touch i args m.registers))
-      ∙ ap (λ r. did (effect i args r (held s.table (touch i args r))) (touch i args r) is m) a.registers
+      ∙ ap (λ r. did (effect i args r (held_in_copy s.table (touch i args r))) (touch i args r) is m) a.registers
 
   branch : (i : Instruction) (is : List Instruction) → ((m : Front) (s : Copy) → m.rest ≡ is → Alike m s → Alike (on (length is) m) (carried_out args is s)) →
       (m : Front) (s : Copy) → Alike m s → (e : Effect) (n : Touch) (o : Option ℕ) → e.ends ≡ o →
@@ -93,7 +94,7 @@ module _ (args : List Bytes) (t : Table) where
   carried_out_alike [] m s e a = a
   carried_out_alike (i ∷ is) m s e a =
       let n = touch i args s.registers in
-      let f = effect i args s.registers (held s.table n) in
+      let f = effect i args s.registers (held_in_copy s.table n) in
       subst (λ g. Alike (on (length is) g) (elim f.ends [ None ↦ carried_out args is (copy_after f n s.outcome s) | Some c ↦ copy_after f n c s ])) (sym (once_is m s a i is e))
       (branch i is (carried_out_alike is) m s a f n f.ends refl)
 

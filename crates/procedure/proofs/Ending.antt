@@ -114,7 +114,8 @@ pub front_whole : (code : List Instruction) (args : List Bytes) (t : Table) (m :
 front_whole code args t m e = front_same_end code args t m (length code) e (whole_ended code args t)
 
 -- what was changed was asked to be written
-changed_after : (n : Touch) (v : Option Cell) (c : Changes) (w : Bytes → Bool) → ((q : Bytes) (x : Cell) → change_at c q ≡ Some x → w q ≡ true) → (q : Bytes) (x : Cell) → change_at (changes_after n v c) q ≡ Some x → writes_after n w q ≡ true
+changed_after : (n : Touch) (v : Option Cell) (c : Changes) (w : Bytes → Bool) → ((q : Bytes) (x : Cell) → change_at c q ≡ Some x → w q ≡ true) → (q : Bytes) (x : Cell) →
+    change_at (changes_after n v c) q ≡ Some x → writes_after n w q ≡ true
 changed_after Nothing v c w h q x e = h q x e
 changed_after (Reads k) v c w h q x e = h q x e
 changed_after (Writes k) None c w h q x e = more (same q k) (w q) (h q x e)
@@ -128,7 +129,8 @@ changed_after (Writes k) (Some v) c w h q x e = more (same q k) (sym (change_at-
     more true e = refl
     more false e = h q x e
 
-pub front_changed : (code : List Instruction) (args : List Bytes) (t : Table) (m : ℕ) (q : Bytes) (x : Cell) → change_at (front code args t m).changes q ≡ Some x → (front code args t m).writes q ≡ true
+pub front_changed : (code : List Instruction) (args : List Bytes) (t : Table) (m : ℕ) (q : Bytes) (x : Cell) → change_at (front code args t m).changes q ≡ Some x →
+    (front code args t m).writes q ≡ true
 unfolding front
 front_changed code args t zero q x e = absurd (not_some (sym (change_at-none q) ∙ e))
   where

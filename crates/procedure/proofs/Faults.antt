@@ -5,7 +5,7 @@ use Rattle.procedure.specs.declared.limits.TheConstants.{INSTRUCTIONS, PROCEDURE
 use Rattle.procedure.specs.declared.catalogs.CatalogError.{CatalogError}
 use Rattle.procedure.specs.declared.catalogs.CatalogError.TheVariants.{TooLong, TooMany}
 use Rattle.procedure.specs.Procedures.{Procedure}
-use Rattle.procedure.specs.Catalogs.{Fault, unless, then_fault, first_fault, procedure_fault, catalog_fault, IsLawful}
+use Rattle.procedure.specs.Catalogs.{Fault, fault_unless, then_fault, first_fault, procedure_fault, catalog_fault, IsLawful}
 
 pub neither : (f g : Fault) → then_fault f g ≡ None → (f ≡ None) × (g ≡ None)
 neither None g e = (refl, e)
@@ -24,7 +24,7 @@ lawful_at ps i (Some p) e at =
     record { no_fault = no_first_fault procedure_fault ps i p.now (neither _ (first_fault procedure_fault ps) e).1 at }
 
 -- a lawful procedure has at most 64 instructions, and a catalog at most 64 procedures
-pub at_most : (a b : ℕ) (e : CatalogError) → unless (nat_le a b) e ≡ None → a ≤ b
+pub at_most : (a b : ℕ) (e : CatalogError) → fault_unless (nat_le a b) e ≡ None → a ≤ b
 at_most a b e h = grind (arith, leb-false)
 
 pub is_byte : (n : ℕ) → n ≤ 64 → n < 256

@@ -58,7 +58,8 @@ unfolding fed next_touch
 touches_fed args m found q h = touches_fed_at args m found m.rest q h
 
 -- THE FRAME
-pub front_frame : (code : List Instruction) (args : List Bytes) (t u : Table) (m : ℕ) → ((q : Bytes) → touched (front code args t m) q ≡ true → value_at t q ≡ value_at u q) → front code args t m ≡ front code args u m
+pub front_frame : (code : List Instruction) (args : List Bytes) (t u : Table) (m : ℕ) → ((q : Bytes) → touched (front code args t m) q ≡ true → value_at t q ≡ value_at u q) →
+    front code args t m ≡ front code args u m
 unfolding front
 front_frame code args t u zero h = refl
 front_frame code args t u (suc m) h =

@@ -188,7 +188,8 @@ module _ (code : List Instruction) (args : List Bytes) (t : Table) where
       ∙ ap (λ x. changes_after (next_touch args f) x f.changes) (next_becomes-need args f (seen_at f.changes t (next_touch args f)))
       ∙ ap (λ n. changes_after n (becomes_of (next_need args f.progress) (seen_at f.changes t n)) f.changes) (next_touch-progress args f)
 
-  pub front_step : (x y : Execution) (d e : Changes) → IsFront code args t x d → y.args ≡ x.args → y.progress ≡ advanced_alone x.args t x.progress d → e ≡ changes_alone x.args t x.progress d → IsFront code args t y e
+  pub front_step : (x y : Execution) (d e : Changes) → IsFront code args t x d → y.args ≡ x.args → y.progress ≡ advanced_alone x.args t x.progress d → e ≡ changes_alone x.args t x.progress d →
+      IsFront code args t y e
   front_step x y d e h a p c =
       record {
         count = suc h.count;

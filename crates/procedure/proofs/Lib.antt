@@ -11,3 +11,4 @@ pub mod Slices
 pub mod Passes
 pub mod Fronts
 pub mod Bounds
+pub mod WriteProgress

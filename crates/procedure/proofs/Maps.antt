@@ -65,7 +65,8 @@ turned : (k q : Bytes) → tree.is_at (by_bytes k) q ≡ eq_by_cmp by_bytes q k
 turned k q = (eq_by_cmp_equiv nat_list_cmp_total).symm k q
 
 -- an insert and a removal in the one are those in the other
-pub map_of-insert : {X : Type 0} (es fs : List (Bytes × X)) (k : Bytes) (v : X) → ((q : Bytes) → Looks fs q ≡ cond (tree.is_at (by_bytes k) q) (Some v) (Looks es q)) → map_of fs ≡ insert (map_of es) k v
+pub map_of-insert : {X : Type 0} (es fs : List (Bytes × X)) (k : Bytes) (v : X) → ((q : Bytes) → Looks fs q ≡ cond (tree.is_at (by_bytes k) q) (Some v) (Looks es q)) →
+    map_of fs ≡ insert (map_of es) k v
 map_of-insert es fs k v h =
     same_key_map _ _ (λ q.
     get-map_of fs q ∙ h q

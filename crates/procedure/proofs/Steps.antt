@@ -40,7 +40,8 @@ module _ (args : List Bytes) (code : List Instruction) (place : ℕ) (registers 
   advanced_past found e = ap (advanced_at args here found) (drop_past code place e)
 
   -- what an action of the instruction here makes of the fields
-  module _ (found : Cell) (i : Instruction) (at : Some i ≡ slice_get code place) (passed : List Bytes) (same : passed ≡ args) (lent : List Cell) (alike : lent ≡ registers) (a : Action Bytes) (acts : effect_of a lent (effect i passed lent found).becomes ≡ effect i passed lent found) where
+  module _ (found : Cell) (i : Instruction) (at : Some i ≡ slice_get code place) (passed : List Bytes) (same : passed ≡ args) (lent : List Cell) (alike : lent ≡ registers) (a : Action Bytes)
+      (acts : effect_of a lent (effect i passed lent found).becomes ≡ effect i passed lent found) where
     abbrev Acts : List Bytes → List Cell → Action Bytes → Type 0
     Acts xs rs b = effect_of b rs (effect i xs rs found).becomes ≡ effect i xs rs found
 
@@ -53,10 +54,12 @@ module _ (args : List Bytes) (code : List Instruction) (place : ℕ) (registers 
     kept : replies ≡ replies ++ []
     kept = sym (append-nil replies)
 
-    pub after_set : (r : ℕ) (v : Cell) → a ≡ Set r v → (rs : List Cell) → rs ≡ slice_set registers r v → record { rest = drop (place + 1) code; registers = rs; replies = replies; outcome = outcome } ≡ advanced args here found
+    pub after_set : (r : ℕ) (v : Cell) → a ≡ Set r v → (rs : List Cell) → rs ≡ slice_set registers r v →
+        record { rest = drop (place + 1) code; registers = rs; replies = replies; outcome = outcome } ≡ advanced args here found
     after_set r v e rs f = (λ j. record here { rest = drop (place + 1) code; registers = f j; replies = kept j }) ∙ acted (Set r v) e
 
-    pub after_load : (r : ℕ) (v w : Cell) → a ≡ Load r v w → (rs ws : List Cell) → rs ≡ slice_set registers r v → ws ≡ replies ++ w ∷ [] → record { rest = drop (place + 1) code; registers = rs; replies = ws; outcome = outcome } ≡ advanced args here found
+    pub after_load : (r : ℕ) (v w : Cell) → a ≡ Load r v w → (rs ws : List Cell) → rs ≡ slice_set registers r v → ws ≡ replies ++ w ∷ [] →
+        record { rest = drop (place + 1) code; registers = rs; replies = ws; outcome = outcome } ≡ advanced args here found
     after_load r v w e rs ws f h = (λ j. record here { rest = drop (place + 1) code; registers = f j; replies = h j }) ∙ acted (Load r v w) e
 
     pub after_pass : a ≡ Pass → record { rest = drop (place + 1) code; registers = registers; replies = replies; outcome = outcome } ≡ advanced args here found

@@ -22,9 +22,9 @@ fault_text BadLiteral = codes "a literal is too long"
 fault_text BadCode = codes "a code below 16"
 
 -- the fault, where the test fails
-abbrev pub unless : Bool → CatalogError → Fault
-unless true f = None
-unless false f = Some f
+abbrev pub fault_unless : Bool → CatalogError → Fault
+fault_unless true f = None
+fault_unless false f = Some f
 
 -- the first of two faults
 abbrev pub then_fault : Fault → Fault → Fault
@@ -37,12 +37,12 @@ first_fault f [] = None
 first_fault f (x ∷ xs) = then_fault (f x) (first_fault f xs)
 
 abbrev pub register_fault : ℕ → Fault
-register_fault r = unless (nat_lt r REGISTERS) BadRegister
+register_fault r = fault_unless (nat_lt r REGISTERS) BadRegister
 
 abbrev pub operand_fault : ℕ → Operand Bytes → Fault
-operand_fault arity (Arg i) = unless (nat_lt i arity) BadArgument
+operand_fault arity (Arg i) = fault_unless (nat_lt i arity) BadArgument
 operand_fault arity (Reg r) = register_fault r
-operand_fault arity (Lit b) = unless (nat_le (length b) LITERAL_BYTES) BadLiteral
+operand_fault arity (Lit b) = fault_unless (nat_le (length b) LITERAL_BYTES) BadLiteral
 
 abbrev pub pair_fault : ℕ → Operand Bytes → Operand Bytes → Fault
 pair_fault arity x y = then_fault (operand_fault arity x) (operand_fault arity y)
@@ -59,15 +59,15 @@ instruction_fault arity (Insert k v) = pair_fault arity k v
 instruction_fault arity (Delete k) = operand_fault arity k
 instruction_fault arity (Add r x y) = then_fault (register_fault r) (pair_fault arity x y)
 instruction_fault arity (Sub r x y) = then_fault (register_fault r) (pair_fault arity x y)
-instruction_fault arity (AbortIf t c) = then_fault (test_fault arity t) (unless (nat_le FIRST_ABORT c) BadCode)
+instruction_fault arity (AbortIf t c) = then_fault (test_fault arity t) (fault_unless (nat_le FIRST_ABORT c) BadCode)
 
 unfoldable pub procedure_fault : Procedure → Fault
 procedure_fault p =
-    then_fault (unless (nat_le (length p.code) INSTRUCTIONS) TooLong)
-    (then_fault (unless (nat_le p.arity ARGUMENTS) BadArgument) (first_fault (instruction_fault p.arity) p.code))
+    then_fault (fault_unless (nat_le (length p.code) INSTRUCTIONS) TooLong)
+    (then_fault (fault_unless (nat_le p.arity ARGUMENTS) BadArgument) (first_fault (instruction_fault p.arity) p.code))
 
 abbrev pub catalog_fault : List Procedure → Fault
-catalog_fault ps = then_fault (unless (nat_le (length ps) PROCEDURES) TooMany) (first_fault procedure_fault ps)
+catalog_fault ps = then_fault (fault_unless (nat_le (length ps) PROCEDURES) TooMany) (first_fault procedure_fault ps)
 
 -- a procedure without a fault
 pub record IsLawful (p : Procedure) : Type 0 where

@@ -20,16 +20,16 @@ abbrev pub copy_of : Table → Copy
 copy_of t = record { registers = replicate REGISTERS None; replies = []; outcome = COMMITTED; table = t; written = no_keys }
 
 -- what the touched key holds
-abbrev pub held : Table → Touch → Cell
-held t Nothing = None
-held t (Reads k) = value_at t k
-held t (Writes k) = value_at t k
+abbrev pub held_in_copy : Table → Touch → Cell
+held_in_copy t Nothing = None
+held_in_copy t (Reads k) = value_at t k
+held_in_copy t (Writes k) = value_at t k
 
-abbrev pub table_after : Table → Touch → Option Cell → Table
-table_after t Nothing x = t
-table_after t (Reads k) x = t
-table_after t (Writes k) None = t
-table_after t (Writes k) (Some c) = with_cell t k c
+abbrev pub table_touched : Table → Touch → Option Cell → Table
+table_touched t Nothing x = t
+table_touched t (Reads k) x = t
+table_touched t (Writes k) None = t
+table_touched t (Writes k) (Some c) = with_cell t k c
 
 abbrev pub written_after : (Bytes → Bool) → Touch → Option Cell → Bytes → Bool
 written_after s Nothing x = s
@@ -43,7 +43,7 @@ copy_after e n outcome s =
       registers = e.registers;
       replies = s.replies ++ e.reply;
       outcome = outcome;
-      table = table_after s.table n e.becomes;
+      table = table_touched s.table n e.becomes;
       written = written_after s.written n e.becomes;
     }
 
@@ -52,7 +52,7 @@ abbrev pub carried_out : List Bytes → List Instruction → Copy → Copy
 carried_out args [] s = s
 carried_out args (i ∷ is) s =
     let n = touch i args s.registers in
-    let e = effect i args s.registers (held s.table n) in
+    let e = effect i args s.registers (held_in_copy s.table n) in
     elim e.ends [ None ↦ carried_out args is (copy_after e n s.outcome s) | Some c ↦ copy_after e n c s ]
 
 -- what a call that was run whole gives

@@ -10,3 +10,4 @@ pub mod CatalogBytes
 pub mod Actions
 pub mod Machines
 pub mod Fronts
+pub mod Streams

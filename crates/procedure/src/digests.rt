@@ -2,18 +2,17 @@
 
 ghost use Rattle.std.specs.Prelude.{◌≡◌, ◌≤◌, [], ◌∷◌, ◌++◌, None, IfOk, OnOk, length};
 ghost use Rattle.std.specs.List.{flat_map};
-ghost use Rattle.byteorder.specs.Endian.{big_bytes};
 ghost use Rattle.sha2.specs.Sha256.{sha256};
 ghost use Rattle.procedure.specs.Catalogs.{catalog_fault, first_fault, procedure_fault};
 ghost use Rattle.procedure.specs.Procedures.{Lit, AbortIf};
 ghost use Rattle.procedure.specs.CatalogBytes.{catalog_bytes, instruction_bytes, operand_bytes, procedure_bytes, test_bytes};
 
+use crate::bytes::write_u16;
 use crate::catalogs::Catalog;
 use crate::instructions::{Instr, Operand, Procedure, Test};
 use crate::memory::NoMemory;
 use crate::sequences::Sequence;
 use crate::values::Value;
-use byteorder::{BigEndian, ByteOrder};
 use sha2::{Digest, Sha256};
 use std::alloc::Allocator;
 
@@ -22,14 +21,6 @@ fn write_bytes<A: Allocator>(out: &mut Vec<u8, A>, bytes: &[u8]) -> Result<(), N
 {
     out.extend_from_slice(bytes)?;
     Ok(())
-}
-
-fn write_u16<A: Allocator>(out: &mut Vec<u8, A>, number: u16) -> Result<(), NoMemory>
-    ensures { OnOk result (out.new.items ≡ out.old.items ++ big_bytes 2 number) }
-{
-    let mut bytes = [0u8; 2];
-    BigEndian::write_u16(&mut bytes, number);
-    write_bytes(out, &bytes)
 }
 
 fn write_literal<A: Allocator>(out: &mut Vec<u8, A>, value: &Value<A>) -> Result<(), NoMemory>

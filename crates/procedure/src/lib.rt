@@ -6,6 +6,7 @@
 #![tactic(auto)]
 
 mod actions;
+pub mod bytes;
 pub mod catalogs;
 mod digests;
 pub mod instructions;
@@ -18,6 +19,7 @@ pub mod needs;
 pub mod outcomes;
 pub mod runs;
 pub mod sequences;
+pub mod streams;
 pub mod tables;
 #[cfg(test)]
 mod tests;

@@ -10,7 +10,7 @@ ghost use Rattle.procedure.specs.Fronts.{IsEnd, IsFront};
 ghost use Rattle.procedure.specs.Needs.{change_of, touch_of};
 ghost use Rattle.procedure.specs.Procedures.{Instruction};
 ghost use Rattle.procedure.specs.Runs.{advanced, advanced_alone, changes_alone, committed, ended, seen_at, whole};
-ghost use Rattle.procedure.specs.Table.{change_at, changed_or, merged, no_changes, value_at, with_cell, with_cells, with_change_of};
+ghost use Rattle.procedure.specs.Table.{change_at, changed_or, no_changes, value_at, with_cell, with_cells, with_change_of};
 
 use crate::instructions::Procedure;
 use crate::keys::Key;
@@ -19,7 +19,7 @@ use crate::memory::NoMemory;
 use crate::needs::Need;
 use crate::outcomes::COMMITTED;
 use crate::sequences::Sequence;
-use crate::tables::{Changes, KeyMap, Table};
+use crate::tables::{Changes, Table};
 use crate::values::Value;
 use std::alloc::{AllocError, Allocator};
 
@@ -217,15 +217,6 @@ fn keys_of<A: Allocator>(
     ensures { IfOk result (λ keys. keys.items ≡ map (λ p. p.0) pairs.now) }
 {
     pairs.iter().map(|pair| pair.0).collect(alloc)
-}
-
-impl<A: Allocator + Clone> KeyMap<Value<A>, A> {
-    /// The table after these changes. With a refusal the table is given up.
-    pub fn merged(self, alloc: A, changes: Changes<A>) -> Result<Self, NoMemory>
-        ensures { IfOk result (λ t. t ≡ merged self changes) }
-    {
-        apply_pairs(self, changes.into_pairs(alloc)?.into_vec())
-    }
 }
 
 /// Runs a procedure whole on a table: what the definition of a run says, carried out. It costs the

@@ -368,9 +368,10 @@ fn deletion(alloc: Global, table: &Table<Global>) -> Result<Changes<Global>, Fai
 }
 
 fn without_second(alloc: Global) -> Result<Table<Global>, Fail> {
-    let before = two_keys(alloc)?;
-    let changes = deletion(alloc, &before)?;
-    Ok(before.merged(alloc, changes)?)
+    let catalog = examples(alloc)?;
+    let delete = catalog.procedure(DELETE).ok_or("no procedure")?;
+    let args = arguments(alloc, &[Text(b"b")])?;
+    Ok(run_whole(alloc, delete, args, two_keys(alloc)?)?.table)
 }
 
 #[test]

@@ -18,7 +18,7 @@ use Rattle.indexmap.specs.IndexSet.{insert_key}
 use Rattle.std.specs.Slice.{IsItemAt}
 use Rattle.procedure.specs.Bytes.{Bytes}
 use Rattle.record_store.specs.ChangedFields.{set_of}
-use Rattle.record_store.specs.ChangedSets.{KeySet, count, has, keys_of, no_keys, union, with_key, with_keys}
+use Rattle.record_store.specs.ChangedSets.{KeySet, count, has, keys_of, empty_set, union, with_member, with_members}
 
 abbrev by_bytes : Bytes → Bytes → Ordering
 by_bytes = slice_cmp nat_cmp
@@ -54,19 +54,19 @@ or_comm true false = refl
 or_comm false true = refl
 or_comm false false = refl
 
-pub has-with_key : (s : KeySet) (k q : Bytes) → has (with_key s k) q ≡ (same q k || has s q)
+pub has-with_key : (s : KeySet) (k q : Bytes) → has (with_member s k) q ≡ (same q k || has s q)
 has-with_key s k q = ap is_some (fin.get-insert nat_list_cmp_total s k tt q) ∙ put_or _ _ ∙ ap (λ b. b || has s q) (sym (texts_ties q k))
 
-pub has-with_keys : (s : KeySet) (ks : List Bytes) (q : Bytes) → has (with_keys s ks) q ≡ (list_any (same q) ks || has s q)
+pub has-with_keys : (s : KeySet) (ks : List Bytes) (q : Bytes) → has (with_members s ks) q ≡ (list_any (same q) ks || has s q)
 has-with_keys s [] q = refl
-has-with_keys s (k ∷ ks) q = has-with_key (with_keys s ks) k q ∙ ap (λ b. same q k || b) (has-with_keys s ks q) ∙ or_regroup (same q k) (list_any (same q) ks) (has s q)
+has-with_keys s (k ∷ ks) q = has-with_key (with_members s ks) k q ∙ ap (λ b. same q k || b) (has-with_keys s ks q) ∙ or_regroup (same q k) (list_any (same q) ks) (has s q)
 
-has-no_keys : (q : Bytes) → has no_keys q ≡ false
+has-no_keys : (q : Bytes) → has empty_set q ≡ false
 has-no_keys q = ap is_some (fin.get-empty by_bytes q)
 
 -- the set of a list has the keys of the list
 pub has-set_of : (ks : List Bytes) (q : Bytes) → has (set_of ks) q ≡ list_any (same q) ks
-has-set_of ks q = has-with_keys no_keys ks q ∙ ap (λ b. list_any (same q) ks || b) (has-no_keys q) ∙ or_false _
+has-set_of ks q = has-with_keys empty_set ks q ∙ ap (λ b. list_any (same q) ks || b) (has-no_keys q) ∙ or_false _
 
 any_ties : (q : Bytes) (ks : List Bytes) → list_any (same q) ks ≡ list_any (eq_by_cmp by_bytes q) ks
 any_ties q ks = λ i. list_any (λ x. texts_ties q x i) ks
@@ -76,9 +76,10 @@ has-union s t q = has-with_keys s (keys_of t) q ∙ ap (λ b. b || has s q) (any
 
 any_push : (p : Bytes → Bool) (ks : List Bytes) (k : Bytes) → list_any p (ks ++ k ∷ []) ≡ (p k || list_any p ks)
 any_push p [] k = refl
-any_push p (x ∷ ks) k = ap (λ b. p x || b) (any_push p ks k) ∙ or_regroup (p x) (p k) (list_any p ks) ∙ ap (λ b. b || list_any p ks) (or_comm (p x) (p k)) ∙ sym (or_regroup (p k) (p x) (list_any p ks))
+any_push p (x ∷ ks) k = ap (λ b. p x || b) (any_push p ks k) ∙ or_regroup (p x) (p k) (list_any p ks) ∙ ap (λ b. b || list_any p ks) (or_comm (p x) (p k)) ∙
+    sym (or_regroup (p k) (p x) (list_any p ks))
 
-pub set_of-push : (ks : List Bytes) (k : Bytes) → set_of (ks ++ k ∷ []) ≡ with_key (set_of ks) k
+pub set_of-push : (ks : List Bytes) (k : Bytes) → set_of (ks ++ k ∷ []) ≡ with_member (set_of ks) k
 set_of-push ks k =
     same_sets _ _ (λ q. has-set_of (ks ++ k ∷ []) q ∙ any_push (same q) ks k ∙ sym (has-with_key (set_of ks) k q ∙ ap (λ b. same q k || b) (has-set_of ks q)))
 
@@ -87,18 +88,18 @@ there_already s k q h true e = sym (ap is_some (sym (fin.get_tied nat_list_cmp_t
 there_already s k q h false e = refl
 
 -- a key that is there adds nothing
-pub with_key-present : (s : KeySet) (k : Bytes) → has s k ≡ true → with_key s k ≡ s
+pub with_key-present : (s : KeySet) (k : Bytes) → has s k ≡ true → with_member s k ≡ s
 with_key-present s k h = same_sets _ _ (λ q. has-with_key s k q ∙ there_already s k q h (same q k) refl)
 
-pub union-with_key : (s t : KeySet) (k : Bytes) → with_key (union s t) k ≡ union s (with_key t k)
+pub union-with_key : (s t : KeySet) (k : Bytes) → with_member (union s t) k ≡ union s (with_member t k)
 union-with_key s t k =
     same_sets _ _ (λ q.
     has-with_key (union s t) k q ∙ ap (λ b. same q k || b) (has-union s t q) ∙ or_regroup (same q k) (has t q) (has s q)
     ∙ ap (λ b. b || has s q) (sym (has-with_key t k q))
-    ∙ sym (has-union s (with_key t k) q))
+    ∙ sym (has-union s (with_member t k) q))
 
-pub union-no_keys : (s : KeySet) → union s no_keys ≡ s
-union-no_keys s = same_sets _ _ (λ q. has-union s no_keys q ∙ ap (λ b. b || has s q) (has-no_keys q))
+pub union-no_keys : (s : KeySet) → union s empty_set ≡ s
+union-no_keys s = same_sets _ _ (λ q. has-union s empty_set q ∙ ap (λ b. b || has s q) (has-no_keys q))
 
 none_same : (k : Bytes) (ks : List Bytes) → AllByRecursion (λ y. same k y ≡ false) ks → list_any (same k) ks ≡ false
 none_same k [] h = refl
@@ -183,7 +184,8 @@ not_same : (r : Ordering) (x q : Bytes) → by_bytes x q ≡ r → is_eq r ≡ f
 not_same r x q e h = nat_list_eq_equiv.symm q x ∙ texts_ties x q ∙ ap is_eq e ∙ h
 
 -- a binary search finds a key exactly where the set has it
-pub is_ok-search : (ks : List Bytes) (q : Bytes) (r : Result ℕ ℕ) → IsStrictlySortedBy by_bytes ks → IsSearchInRange r (length ks) → IsBinarySearchResult (λ y. by_bytes y q) ks r → is_ok r ≡ has (set_of ks) q
+pub is_ok-search : (ks : List Bytes) (q : Bytes) (r : Result ℕ ℕ) → IsStrictlySortedBy by_bytes ks → IsSearchInRange r (length ks) → IsBinarySearchResult (λ y. by_bytes y q) ks r →
+    is_ok r ≡ has (set_of ks) q
 is_ok-search ks q (Ok i) sorted within at =
     sym (has-set_of ks q ∙ list_any_at (same q) ks i [] within (nat_list_eq_equiv.symm q (get_or ks i []) ∙ texts_ties (get_or ks i []) q ∙ ap is_eq (at [])))
 is_ok-search ks q (Err i) sorted within at =
@@ -199,7 +201,7 @@ unfolding IsStrictlySortedBy
 no_keys_rise ks e = subst (IsStrictlySortedBy by_bytes) (sym e) tt
 
 -- a new key goes last
-pub set_of-insert_key : (ks : List Bytes) (k : Bytes) → list_any (same k) ks ≡ false → set_of (insert_key same ks k) ≡ with_key (set_of ks) k
+pub set_of-insert_key : (ks : List Bytes) (k : Bytes) → list_any (same k) ks ≡ false → set_of (insert_key same ks k) ≡ with_member (set_of ks) k
 set_of-insert_key ks k absent = ap (λ b. set_of (if b then ks else ks ++ k ∷ [])) absent ∙ set_of-push ks k
 
 -- what holds of an Ok, where the result isn't an Err

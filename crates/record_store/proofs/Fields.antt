@@ -13,7 +13,7 @@ use Rattle.slab.specs.Slab.{Slab, get, slab_len}
 use Rattle.indexmap.specs.IndexMap.{get as found_at}
 use Rattle.procedure.specs.Bytes.{Bytes, Cell}
 use Rattle.record_store.specs.DeadKeys.{IsLeast, offer_at}
-use Rattle.record_store.specs.Stores.{Record, Slots, Finds, IsLeastCandidate, IsOnce, at_rest, record_at, key_at, changed, candidate_at, candidate_key}
+use Rattle.record_store.specs.Stores.{StoreRecord, Slots, Finds, IsLeastCandidate, HasKeysOnce, record_at_rest, record_at, key_at, changed, candidate_at, candidate_key}
 use Rattle.record_store.specs.Entries.{cleaned, seen, live_of, with_entry_stable, with_entry_copy, with_slots, offer_of, entry_changed}
 use Rattle.record_store.specs.Fields.{first, slots_of, entry_key, IsMarked, IsStore}
 use Rattle.record_store.specs.declared.records.Entry.{Entry}
@@ -51,16 +51,26 @@ count_edit : {X : Type 0} (f : X → X) (xs : List (Option X)) (slot : ℕ) → 
 count_edit f [] slot = refl
 count_edit f (None ∷ xs) zero = refl
 count_edit f (Some x ∷ xs) zero = omega (arith, sum_by-cons (λ o. cond (is_some o) 1 0) (Some x) xs, sum_by-cons (λ o. cond (is_some o) 1 0) (Some (f x)) xs)
-count_edit f (o ∷ xs) (suc slot) = omega (arith, count_edit f xs slot, sum_by-cons (λ o. cond (is_some o) 1 0) o xs, sum_by-cons (λ o. cond (is_some o) 1 0) o (slice_set xs slot (option_map f (get_or xs slot None))))
+count_edit f (o ∷ xs) (suc slot) = omega (
+  arith,
+  count_edit f xs slot,
+  sum_by-cons (λ o. cond (is_some o) 1 0) o xs,
+  sum_by-cons (λ o. cond (is_some o) 1 0) o (slice_set xs slot (option_map f (get_or xs slot None))),
+)
 
 count_first : (g : ℕ) (xs : Slots) → ((i : ℕ) → g ≤ i → record_at xs i ≡ None) → count_by is_some (first g xs) ≡ count_by is_some xs
 count_first zero [] none = refl
 count_first zero (None ∷ xs) none = omega (arith, count_first zero xs (λ i h. none (suc i) (omega arith)), sum_by-cons (λ o. cond (is_some o) 1 0) None xs)
 count_first zero (Some x ∷ xs) none = absurd (let e = none 0 (omega arith) in cc)
 count_first (suc g) [] none = omega (arith, count_first g [] (λ i h. refl), sum_by-cons (λ o. cond (is_some o) 1 0) None (first g []))
-count_first (suc g) (x ∷ xs) none = omega (arith, count_first g xs (λ i h. none (suc i) (omega arith)), sum_by-cons (λ o. cond (is_some o) 1 0) x xs, sum_by-cons (λ o. cond (is_some o) 1 0) x (first g xs))
+count_first (suc g) (x ∷ xs) none = omega (
+  arith,
+  count_first g xs (λ i h. none (suc i) (omega arith)),
+  sum_by-cons (λ o. cond (is_some o) 1 0) x xs,
+  sum_by-cons (λ o. cond (is_some o) 1 0) x (first g xs),
+)
 
-count_map : {X : Type 0} (f : X → Record) (xs : List (Option X)) → count_by is_some (map (option_map f) xs) ≡ count_by is_some xs
+count_map : {X : Type 0} (f : X → StoreRecord) (xs : List (Option X)) → count_by is_some (map (option_map f) xs) ≡ count_by is_some xs
 count_map f [] = refl
 count_map f (None ∷ xs) = omega (arith, count_map f xs, sum_by-cons (λ o. cond (is_some o) 1 0) None xs, sum_by-cons (λ o. cond (is_some o) 1 0) None (map (option_map f) xs))
 count_map f (Some x ∷ xs) = omega (arith, count_map f xs, sum_by-cons (λ o. cond (is_some o) 1 0) (Some x) xs, sum_by-cons (λ o. cond (is_some o) 1 0) (Some (f x)) (map (option_map f) xs))
@@ -69,7 +79,7 @@ map_twice : {X Y Z W : Type 0} (f : X → Y) (g : Y → W) (h : X → Z) (k : Z 
 map_twice f g h k same None = refl
 map_twice f g h k same (Some x) = ap (λ w. Some w) (same x)
 
-abbrev pub live_of_record : Option Record → Cell
+abbrev pub live_of_record : Option StoreRecord → Cell
 live_of_record o = option_and_then (λ r. r.live) o
 
 none_is_some : (n : ℕ) → None ≡ Some n → false ≡ true
@@ -123,16 +133,20 @@ module _ {A : Type 0} where
   pub entry_other : (s : Slab (Entry A)) (f : Entry A → Entry A) (slot i : ℕ) → i ≢ slot → get (entry_changed f s slot) i ≡ get s i
   entry_other s f slot i differs = get_or-set_other s.slots slot i _ None differs
 
-  pub changed_view : (s new : Inside A) (f : Entry A → Entry A) (h : Record → Record) (slot : ℕ) → IsStore s → IsStore new → new.used ≡ s.used → new.number ≡ s.number → new.slots ≡ entry_changed f s.slots slot → ((e : Entry A) → seen s.number (f e) ≡ h (seen s.number e)) → slots_of new ≡ changed h (slots_of s) slot
+  pub changed_view : (s new : Inside A) (f : Entry A → Entry A) (h : StoreRecord → StoreRecord) (slot : ℕ) → IsStore s → IsStore new → new.used ≡ s.used → new.number ≡ s.number →
+      new.slots ≡ entry_changed f s.slots slot → ((e : Entry A) → seen s.number (f e) ≡ h (seen s.number e)) → slots_of new ≡ changed h (slots_of s) slot
   changed_view s new f h slot sound again used number is same =
       view_is new again _ (length-set (slots_of s) slot _ ∙ length-view s ∙ sym used) (λ i.
       ap (λ (n : ℕ). option_map (seen n) (get new.slots i)) number ∙ elim (cases_eq i slot) [
-        | inl here ↦ rw here (ap (λ (x : Slab (Entry A)). option_map (seen s.number) (get x slot)) is ∙ ap (option_map (seen s.number)) (entry_here s.slots f slot) ∙ map_twice f (seen s.number) (seen s.number) h same (get s.slots slot) ∙ ap (option_map h) (sym (view_at s sound slot)) ∙ sym (edited_here (option_map h) refl (slots_of s) slot))
-        | inr differs ↦ ap (λ (x : Slab (Entry A)). option_map (seen s.number) (get x i)) is ∙ ap (option_map (seen s.number)) (entry_other s.slots f slot i differs) ∙ sym (view_at s sound i) ∙ sym (get_or-set_other (slots_of s) slot i _ None differs)
+        | inl here ↦ rw here (ap (λ (x : Slab (Entry A)). option_map (seen s.number) (get x slot)) is ∙ ap (option_map (seen s.number)) (entry_here s.slots f slot) ∙
+            map_twice f (seen s.number) (seen s.number) h same (get s.slots slot) ∙ ap (option_map h) (sym (view_at s sound slot)) ∙ sym (edited_here (option_map h) refl (slots_of s) slot))
+        | inr differs ↦ ap (λ (x : Slab (Entry A)). option_map (seen s.number) (get x i)) is ∙ ap (option_map (seen s.number)) (entry_other s.slots f slot i differs) ∙ sym (view_at s sound i) ∙
+            sym (get_or-set_other (slots_of s) slot i _ None differs)
       ])
 
   -- what holds of each entry of the changed slab
-  changed_each : (s new : Slab (Entry A)) (f : Entry A → Entry A) (slot : ℕ) (P : ℕ → Option (Entry A) → Type 0) → new ≡ entry_changed f s slot → P slot (option_map f (get s slot)) → ((i : ℕ) → i ≢ slot → P i (get s i)) → (i : ℕ) → P i (get new i)
+  changed_each : (s new : Slab (Entry A)) (f : Entry A → Entry A) (slot : ℕ) (P : ℕ → Option (Entry A) → Type 0) → new ≡ entry_changed f s slot → P slot (option_map f (get s slot)) →
+      ((i : ℕ) → i ≢ slot → P i (get s i)) → (i : ℕ) → P i (get new i)
   changed_each s new f slot P is here others i =
       elim (cases_eq i slot) [
         | inl same ↦ subst (λ (j : ℕ). P j (get new j)) (sym same) (subst (P slot) (sym (ap (λ (x : Slab (Entry A)). get x slot) is ∙ entry_here s f slot)) here)
@@ -150,7 +164,9 @@ module _ {A : Type 0} where
   pub keys_kept : (s new : Slab (Entry A)) (f : Entry A → Entry A) (slot : ℕ) → new ≡ entry_changed f s slot → ((e : Entry A) → (f e).key ≡ e.key) → (i : ℕ) → entry_key new i ≡ entry_key s i
   keys_kept s new f slot is keeps = changed_each s new f slot (λ i o. option_map (λ e. e.key) o ≡ entry_key s i) is (mapped_key f keeps (get s slot)) (λ i differs. refl)
 
-  pub changed_sound : (s new : Inside A) (f : Entry A → Entry A) (slot : ℕ) → IsStore s → new.used ≡ s.used → new.number ≡ s.number → new.index ≡ s.index → new.slots ≡ entry_changed f s.slots slot → length new.dead ≡ length s.dead → ((e : Entry A) → (f e).key ≡ e.key) → ((e : Entry A) → IsMarked s.number e → IsMarked s.number (f e)) → ((i : ℕ) → offer_at new.dead i ≡ option_and_then offer_of (get new.slots i)) → IsStore new
+  pub changed_sound : (s new : Inside A) (f : Entry A → Entry A) (slot : ℕ) → IsStore s → new.used ≡ s.used → new.number ≡ s.number → new.index ≡ s.index → new.slots ≡ entry_changed f s.slots slot →
+      length new.dead ≡ length s.dead → ((e : Entry A) → (f e).key ≡ e.key) → ((e : Entry A) → IsMarked s.number e → IsMarked s.number (f e)) →
+      ((i : ℕ) → offer_at new.dead i ≡ option_and_then offer_of (get new.slots i)) → IsStore new
   changed_sound s new f slot sound used number index is dead keeps marks offers =
       record {
         number = rw number sound.number;
@@ -171,18 +187,21 @@ module _ {A : Type 0} where
   mapped_offer f keeps (Some e) = keeps e
 
   -- the offers stay, where the change keeps them
-  pub offers_kept : (s new : Inside A) (f : Entry A → Entry A) (slot : ℕ) → IsStore s → new.slots ≡ entry_changed f s.slots slot → new.dead ≡ s.dead → ((e : Entry A) → offer_of (f e) ≡ offer_of e) → (i : ℕ) → offer_at new.dead i ≡ option_and_then offer_of (get new.slots i)
+  pub offers_kept : (s new : Inside A) (f : Entry A → Entry A) (slot : ℕ) → IsStore s → new.slots ≡ entry_changed f s.slots slot → new.dead ≡ s.dead → ((e : Entry A) → offer_of (f e) ≡ offer_of e) →
+      (i : ℕ) → offer_at new.dead i ≡ option_and_then offer_of (get new.slots i)
   offers_kept s new f slot sound is dead keeps i =
       ap (λ (d : List (Option Bytes)). offer_at d i) dead ∙ sound.offers i
       ∙ sym (changed_each s.slots new.slots f slot (λ i o. option_and_then offer_of o ≡ option_and_then offer_of (get s.slots i)) is (mapped_offer f keeps (get s.slots slot)) (λ j differs. refl) i)
 
   -- the slot's offer is made again
-  pub offers_renewed : (s new : Inside A) (slot : ℕ) → IsStore s → new.dead ≡ slice_set s.dead slot (option_and_then offer_of (get new.slots slot)) → ((i : ℕ) → s.used ≤ i → get new.slots i ≡ None) → ((i : ℕ) → i ≢ slot → get new.slots i ≡ get s.slots i) → (i : ℕ) → offer_at new.dead i ≡ option_and_then offer_of (get new.slots i)
+  pub offers_renewed : (s new : Inside A) (slot : ℕ) → IsStore s → new.dead ≡ slice_set s.dead slot (option_and_then offer_of (get new.slots slot)) → ((i : ℕ) → s.used ≤ i → get new.slots i ≡ None) →
+      ((i : ℕ) → i ≢ slot → get new.slots i ≡ get s.slots i) → (i : ℕ) → offer_at new.dead i ≡ option_and_then offer_of (get new.slots i)
   offers_renewed s new slot sound dead used others i =
       ap (λ (d : List (Option Bytes)). offer_at d i) dead ∙ elim (cases_eq i slot) [
         | inl same ↦ rw same (elim (in_order slot (length s.dead)) [
           | inl within ↦ get_or-set_same s.dead slot _ None within
-          | inr past ↦ get_or_past (slice_set s.dead slot (option_and_then offer_of (get new.slots slot))) slot None (omega (arith, length-set s.dead slot (option_and_then offer_of (get new.slots slot)))) ∙ sym (ap (option_and_then offer_of) (used slot (omega (arith, sound.places))))
+          | inr past ↦ get_or_past (slice_set s.dead slot (option_and_then offer_of (get new.slots slot))) slot None
+              (omega (arith, length-set s.dead slot (option_and_then offer_of (get new.slots slot)))) ∙ sym (ap (option_and_then offer_of) (used slot (omega (arith, sound.places))))
         ])
         | inr differs ↦ get_or-set_other s.dead slot i _ None differs ∙ sound.offers i ∙ sym (ap (option_and_then offer_of) (others i differs))
       ]
@@ -205,7 +224,8 @@ module _ {A : Type 0} where
     );
   }
 
-  pub least_is : (s : Inside A) → IsStore s → (found : Option ℕ) → IfSome found (λ slot. IsLeast (offer_at s.dead) slot) → IfNone found ((slot : ℕ) → offer_at s.dead slot ≡ None) → IsLeastCandidate (slots_of s) found
+  pub least_is : (s : Inside A) → IsStore s → (found : Option ℕ) → IfSome found (λ slot. IsLeast (offer_at s.dead) slot) → IfNone found ((slot : ℕ) → offer_at s.dead slot ≡ None) →
+      IsLeastCandidate (slots_of s) found
   least_is s sound None some none = λ slot. candidate_is s sound slot ∙ none slot
   least_is s sound (Some slot) some none = record {
     key = some.key;
@@ -214,10 +234,11 @@ module _ {A : Type 0} where
   }
 
   -- all records at rest
-  rest_view : (s new : Inside A) → IsStore s → IsStore new → new.used ≡ s.used → ((i : ℕ) → option_map (seen new.number) (get new.slots i) ≡ option_map at_rest (option_map (seen s.number) (get s.slots i))) → slots_of new ≡ map (option_map at_rest) (slots_of s)
+  rest_view : (s new : Inside A) → IsStore s → IsStore new → new.used ≡ s.used → ((i : ℕ) →
+      option_map (seen new.number) (get new.slots i) ≡ option_map record_at_rest (option_map (seen s.number) (get s.slots i))) → slots_of new ≡ map (option_map record_at_rest) (slots_of s)
   rest_view s new sound again used same =
-      view_is new again _ (length-map (slots_of s) (option_map at_rest) ∙ length-view s ∙ sym used) (λ i.
-      same i ∙ ap (option_map at_rest) (sym (view_at s sound i)) ∙ sym (get_or-map (option_map at_rest) (slots_of s) i None))
+      view_is new again _ (length-map (slots_of s) (option_map record_at_rest) ∙ length-view s ∙ sym used) (λ i.
+      same i ∙ ap (option_map record_at_rest) (sym (view_at s sound i)) ∙ sym (get_or-map (option_map record_at_rest) (slots_of s) i None))
 
   pub next_sound : (s new : Inside A) → IsStore s → new.slots ≡ s.slots → new.index ≡ s.index → new.dead ≡ s.dead → new.used ≡ s.used → new.number ≡ s.number + 1 → IsStore new
   next_sound s new sound slots index dead used number =
@@ -231,7 +252,7 @@ module _ {A : Type 0} where
         few = rw slots sound.few;
       }
 
-  seen_next : (number : ℕ) (o : Option (Entry A)) → ((e : Entry A) → o ≡ Some e → IsMarked number e) → option_map (seen (number + 1)) o ≡ option_map at_rest (option_map (seen number) o)
+  seen_next : (number : ℕ) (o : Option (Entry A)) → ((e : Entry A) → o ≡ Some e → IsMarked number e) → option_map (seen (number + 1)) o ≡ option_map record_at_rest (option_map (seen number) o)
   seen_next number None marked = refl
   seen_next number (Some e) marked =
       let m = marked e refl in
@@ -239,7 +260,8 @@ module _ {A : Type 0} where
       let copied : (e.copied ≢ number + 1) = omega (arith, m.copied) in
       simp (not_same e.mark (number + 1) mark, not_same e.copied (number + 1) copied)
 
-  pub next_view : (s new : Inside A) → IsStore s → new.slots ≡ s.slots → new.index ≡ s.index → new.dead ≡ s.dead → new.used ≡ s.used → new.number ≡ s.number + 1 → slots_of new ≡ map (option_map at_rest) (slots_of s)
+  pub next_view : (s new : Inside A) → IsStore s → new.slots ≡ s.slots → new.index ≡ s.index → new.dead ≡ s.dead → new.used ≡ s.used → new.number ≡ s.number + 1 →
+      slots_of new ≡ map (option_map record_at_rest) (slots_of s)
   next_view s new sound slots index dead used number =
       rest_view s new sound (next_sound s new sound slots index dead used number) used (λ i. rw (slots, number) (seen_next s.number (get s.slots i) (sound.marked i)))
 
@@ -257,11 +279,12 @@ module _ {A : Type 0} where
       let same : e ≡ cleaned x = cc in
       subst (IsMarked 1) (sym same) record { mark = omega arith; copied = omega arith }
 
-  cleaned_seen : (number : ℕ) (o : Option (Entry A)) → option_map (seen 1) (option_map cleaned o) ≡ option_map at_rest (option_map (seen number) o)
+  cleaned_seen : (number : ℕ) (o : Option (Entry A)) → option_map (seen 1) (option_map cleaned o) ≡ option_map record_at_rest (option_map (seen number) o)
   cleaned_seen number None = refl
   cleaned_seen number (Some e) = refl
 
-  pub cleaned_sound : (s new : Inside A) → IsStore s → ((i : ℕ) → get new.slots i ≡ option_map cleaned (get s.slots i)) → slab_len new.slots ≡ slab_len s.slots → new.index ≡ s.index → new.dead ≡ s.dead → new.used ≡ s.used → new.number ≡ 1 → IsStore new
+  pub cleaned_sound : (s new : Inside A) → IsStore s → ((i : ℕ) → get new.slots i ≡ option_map cleaned (get s.slots i)) → slab_len new.slots ≡ slab_len s.slots → new.index ≡ s.index →
+      new.dead ≡ s.dead → new.used ≡ s.used → new.number ≡ 1 → IsStore new
   cleaned_sound s new sound slots len index dead used number =
       record {
         number = omega arith;
@@ -273,7 +296,8 @@ module _ {A : Type 0} where
         few = rw len sound.few;
       }
 
-  pub cleaned_view : (s new : Inside A) → IsStore s → ((i : ℕ) → get new.slots i ≡ option_map cleaned (get s.slots i)) → slab_len new.slots ≡ slab_len s.slots → new.index ≡ s.index → new.dead ≡ s.dead → new.used ≡ s.used → new.number ≡ 1 → slots_of new ≡ map (option_map at_rest) (slots_of s)
+  pub cleaned_view : (s new : Inside A) → IsStore s → ((i : ℕ) → get new.slots i ≡ option_map cleaned (get s.slots i)) → slab_len new.slots ≡ slab_len s.slots → new.index ≡ s.index →
+      new.dead ≡ s.dead → new.used ≡ s.used → new.number ≡ 1 → slots_of new ≡ map (option_map record_at_rest) (slots_of s)
   cleaned_view s new sound slots len index dead used number =
       rest_view s new sound (cleaned_sound s new sound slots len index dead used number) used (λ i. rw number (ap (option_map (seen 1)) (slots i) ∙ cleaned_seen s.number (get s.slots i)))
 
@@ -285,10 +309,11 @@ module _ {A : Type 0} where
   copied_option None number copy is = refl
   copied_option (Some e) number copy is = ap (λ (x : Cell). Some (with_entry_stable x number e)) is
 
-  pub copied_entry : (s : Slab (Entry A)) (slot number : ℕ) (copy : Cell) → copy ≡ live_of (get s slot) → entry_changed (with_entry_stable copy number) s slot ≡ entry_changed (with_entry_copy number) s slot
+  pub copied_entry : (s : Slab (Entry A)) (slot number : ℕ) (copy : Cell) → copy ≡ live_of (get s slot) →
+      entry_changed (with_entry_stable copy number) s slot ≡ entry_changed (with_entry_copy number) s slot
   copied_entry s slot number copy is = ap (λ (o : Option (Entry A)). with_slots s (slice_set s.slots slot o)) (copied_option (get s slot) number copy is)
 
-  pub key_once : (s : Inside A) → IsStore s → IsOnce (slots_of s)
+  pub key_once : (s : Inside A) → IsStore s → HasKeysOnce (slots_of s)
   key_once s sound = record {
     once = λ i j key first second.
         let one : found_at (pointwise nat_eq) s.index key ≡ Some i = (sound.index key i).1 (sym (key_is s sound i) ∙ first) in

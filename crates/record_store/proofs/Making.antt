@@ -9,28 +9,28 @@ use Rattle.indexmap.specs.IndexMap.{IndexMap, get as found_at}
 use Rattle.std.specs.Map.{lookup}
 use Rattle.procedure.specs.Bytes.{Bytes}
 use Rattle.record_store.specs.DeadKeys.{offer_at}
-use Rattle.record_store.specs.Stores.{Record, Slots, record_at, with_record, new_record, reclaimed, unless_dead}
+use Rattle.record_store.specs.Stores.{StoreRecord, Slots, record_at, with_record, new_record, reclaimed, unless_dead}
 use Rattle.record_store.specs.Entries.{seen, offer_of, key_if_dead, made}
 use Rattle.record_store.specs.Fields.{slots_of, entry_key, IsMarked, IsStore, mark_of}
 use Rattle.record_store.specs.declared.records.Entry.{Entry}
-use Rattle.record_store.specs.declared.limits.TheConstants.{RECORDS}
+use Rattle.record_store.specs.declared.limits.TheConstants.{STORE_RECORDS}
 use Rattle.record_store.specs.declared.stores.Store.TheInside.{Inside}
 use Rattle.record_store.proofs.Fields.{length-view, view_at, view_is, offers_renewed, edited_here}
 use Rattle.record_store.proofs.Seen.{not_same, same_self}
 
-length-with : (xs : Slots) (n : ℕ) (r : Record) → length (with_record xs n r) ≡ max (length xs) (n + 1)
+length-with : (xs : Slots) (n : ℕ) (r : StoreRecord) → length (with_record xs n r) ≡ max (length xs) (n + 1)
 length-with [] zero r = refl
 length-with [] (suc n) r = omega (arith, length-with [] n r)
 length-with (x ∷ xs) zero r = omega arith
 length-with (x ∷ xs) (suc n) r = omega (arith, length-with xs n r)
 
-pub at_with_here : (xs : Slots) (n : ℕ) (r : Record) → record_at (with_record xs n r) n ≡ Some r
+pub at_with_here : (xs : Slots) (n : ℕ) (r : StoreRecord) → record_at (with_record xs n r) n ≡ Some r
 at_with_here [] zero r = refl
 at_with_here [] (suc n) r = at_with_here [] n r
 at_with_here (x ∷ xs) zero r = refl
 at_with_here (x ∷ xs) (suc n) r = at_with_here xs n r
 
-pub at_with_other : (xs : Slots) (n : ℕ) (r : Record) (i : ℕ) → i ≢ n → record_at (with_record xs n r) i ≡ record_at xs i
+pub at_with_other : (xs : Slots) (n : ℕ) (r : StoreRecord) (i : ℕ) → i ≢ n → record_at (with_record xs n r) i ≡ record_at xs i
 at_with_other [] zero r zero differs = absurd (differs refl)
 at_with_other [] zero r (suc i) differs = refl
 at_with_other [] (suc n) r zero differs = refl
@@ -46,7 +46,7 @@ keys_equal x y e = (bytes_decides x y).0 e
 keys_same : (x y : Bytes) → x ≡ y → pointwise nat_eq x y ≡ true
 keys_same x y e = (bytes_decides x y).1 e
 
-unless_false : (r : Record) (k : Bytes) (b : Bool) → cond b (Some k) None ≡ None → cond b None (Some r) ≡ Some r
+unless_false : (r : StoreRecord) (k : Bytes) (b : Bool) → cond b (Some k) None ≡ None → cond b None (Some r) ≡ Some r
 unless_false r k true is = absurd (cc)
 unless_false r k false is = refl
 
@@ -56,7 +56,8 @@ found_kept m n is q = ap (λ (es : List (Bytes × ℕ)). lookup (pointwise nat_e
 
 module _ {A : Type 0} where
   -- more room changes nothing that is kept
-  pub roomy_sound : (s new : Inside A) → IsStore s → ((i : ℕ) → get new.slots i ≡ get s.slots i) → slab_len new.slots ≡ slab_len s.slots → new.index.entries ≡ s.index.entries → ((i : ℕ) → offer_at new.dead i ≡ offer_at s.dead i) → length s.dead ≤ length new.dead → new.used ≡ s.used → new.number ≡ s.number → IsStore new
+  pub roomy_sound : (s new : Inside A) → IsStore s → ((i : ℕ) → get new.slots i ≡ get s.slots i) → slab_len new.slots ≡ slab_len s.slots → new.index.entries ≡ s.index.entries →
+      ((i : ℕ) → offer_at new.dead i ≡ offer_at s.dead i) → length s.dead ≤ length new.dead → new.used ≡ s.used → new.number ≡ s.number → IsStore new
   roomy_sound s new sound slots len index offers longer used number =
       record {
         number = rw number sound.number;
@@ -76,7 +77,7 @@ module _ {A : Type 0} where
     pub vacant : get s.slots slot ≡ None
     pub put : get new.slots slot ≡ Some (made key mark)
     pub others : (i : ℕ) → i ≢ slot → get new.slots i ≡ get s.slots i
-    pub few : slab_len new.slots ≤ RECORDS
+    pub few : slab_len new.slots ≤ STORE_RECORDS
     pub found : (q : Bytes) → found_at (pointwise nat_eq) new.index q ≡ cond (pointwise nat_eq key q) (Some slot) (found_at (pointwise nat_eq) s.index q)
     pub absent : (i : ℕ) → entry_key s.slots i ≢ Some key
     pub offers : (i : ℕ) → offer_at new.dead i ≡ offer_at s.dead i
@@ -153,7 +154,7 @@ module _ {A : Type 0} where
     made_view available is =
         view_is new made_sound _ (length-with (slots_of s) slot _ ∙ ap (λ (n : ℕ). max n (slot + 1)) (length-view s) ∙ sym made_so.used) (λ i.
         ap (λ (n : ℕ). option_map (seen n) (get new.slots i)) made_so.number ∙ elim (cases_eq i slot) [
-          | inl same ↦ rw same (ap (option_map (seen s.number)) made_so.put ∙ ap (λ (r : Record). Some r) (seen_made available is) ∙ sym (at_with_here (slots_of s) slot _))
+          | inl same ↦ rw same (ap (option_map (seen s.number)) made_so.put ∙ ap (λ (r : StoreRecord). Some r) (seen_made available is) ∙ sym (at_with_here (slots_of s) slot _))
           | inr differs ↦ ap (option_map (seen s.number)) (made_so.others i differs) ∙ sym (view_at s sound i) ∙ sym (at_with_other (slots_of s) slot _ i differs)
         ])
 
@@ -264,6 +265,7 @@ module _ {A : Type 0} where
     gone_view =
         view_is new gone_sound _ (length-set (slots_of s) slot _ ∙ length-view s ∙ sym gone.used) (λ i.
         ap (λ (n : ℕ). option_map (seen n) (get new.slots i)) gone.number ∙ elim (cases_eq i slot) [
-          | inl same ↦ rw same (ap (option_map (seen s.number)) gone.gone ∙ sym (dead_goes s.number (get s.slots slot) key gone.was) ∙ ap (option_and_then unless_dead) (sym (view_at s sound slot)) ∙ sym (edited_here (option_and_then unless_dead) refl (slots_of s) slot))
+          | inl same ↦ rw same (ap (option_map (seen s.number)) gone.gone ∙ sym (dead_goes s.number (get s.slots slot) key gone.was) ∙ ap (option_and_then unless_dead) (sym (view_at s sound slot)) ∙
+              sym (edited_here (option_and_then unless_dead) refl (slots_of s) slot))
           | inr differs ↦ ap (option_map (seen s.number)) (gone.others i differs) ∙ sym (view_at s sound i) ∙ sym (get_or-set_other (slots_of s) slot i _ None differs)
         ])

@@ -23,7 +23,8 @@ module _ {A : Type 0} where
   stable_seen_in number None = refl
   stable_seen_in number (Some e) = refl
 
-  pub seen_marked : (number : ℕ) (available : Bool) (mark : ℕ) (e : Entry A) → mark ≡ mark_of number available → 0 < number → seen number (with_entry_mark mark e) ≡ with_available available (seen number e)
+  pub seen_marked : (number : ℕ) (available : Bool) (mark : ℕ) (e : Entry A) → mark ≡ mark_of number available → 0 < number →
+      seen number (with_entry_mark mark e) ≡ with_available available (seen number e)
   seen_marked number true mark e is positive = simp (is, same_self number)
   seen_marked number false mark e is positive = simp (is, not_same 0 number (omega arith))
 

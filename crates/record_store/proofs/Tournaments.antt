@@ -84,7 +84,8 @@ in_order x zero = inr (omega arith)
 in_order zero (suc y) = inl (omega arith)
 in_order (suc x) (suc y) = elim (in_order x y) [ inl h ↦ inl (omega arith) | inr h ↦ inr (omega arith) ]
 
-at_place : (nodes : Nodes) (slots : ℕ) → ((slot : ℕ) (c : Candidate) → node_at nodes (slots + slot) ≡ Some c → c.slot ≡ slot) → (n : ℕ) (c : Candidate) → slots ≤ n → n < slots + slots → node_at nodes n ≡ Some c → (c.slot < slots) × (node_at nodes (slots + c.slot) ≡ Some c)
+at_place : (nodes : Nodes) (slots : ℕ) → ((slot : ℕ) (c : Candidate) → node_at nodes (slots + slot) ≡ Some c → c.slot ≡ slot) → (n : ℕ) (c : Candidate) → slots ≤ n → n < slots + slots →
+    node_at nodes n ≡ Some c → (c.slot < slots) × (node_at nodes (slots + c.slot) ≡ Some c)
 at_place nodes slots places n c outer within is =
     let at : slots + (n - slots) ≡ n = omega arith in
     let same : c.slot ≡ n - slots = places (n - slots) c (ap (node_at nodes) at ∙ is) in
@@ -106,11 +107,13 @@ pub play_here : (nodes new : Nodes) (at : ℕ) → 0 < at → at < length nodes 
 play_here nodes new at positive within is =
     rw is (set_same nodes at _ within ∙ sym (match_other nodes at at _ (omega arith) (omega arith)))
 
-pub play_other : (nodes new : Nodes) (at n : ℕ) → n ≢ at → n + n ≢ at → n + n + 1 ≢ at → new ≡ slice_set nodes at (match_at nodes at) → node_at nodes n ≡ match_at nodes n → node_at new n ≡ match_at new n
+pub play_other : (nodes new : Nodes) (at n : ℕ) → n ≢ at → n + n ≢ at → n + n + 1 ≢ at → new ≡ slice_set nodes at (match_at nodes at) → node_at nodes n ≡ match_at nodes n →
+    node_at new n ≡ match_at new n
 play_other nodes new at n differs even odd is won =
     rw is (set_other nodes at n _ differs ∙ won ∙ sym (match_other nodes at n _ even odd))
 
-pub replayed : (nodes new : Nodes) (slots at up : ℕ) → length nodes ≡ slots + slots → at < slots + slots → 1 < at → (at ≡ up + up) ⊎ (at ≡ up + up + 1) → new ≡ slice_set nodes up (match_at nodes up) → IsWonBut nodes slots at → IsWonBut new slots up
+pub replayed : (nodes new : Nodes) (slots at up : ℕ) → length nodes ≡ slots + slots → at < slots + slots → 1 < at → (at ≡ up + up) ⊎ (at ≡ up + up + 1) → new ≡ slice_set nodes up (match_at nodes up) →
+    IsWonBut nodes slots at → IsWonBut new slots up
 replayed nodes new slots at up len within above half is won = record {
   won = λ n positive inner even odd. elim (cases_eq n up) [
     | inl same ↦ subst (λ (m : ℕ). node_at new m ≡ match_at new m) (sym same) (play_here nodes new up (omega arith) (omega arith) is)
@@ -121,7 +124,8 @@ replayed nodes new slots at up len within above half is won = record {
 pub replayed_all : (nodes : Nodes) (slots at : ℕ) → at < 2 → IsWonBut nodes slots at → IsWonFrom nodes slots 1
 replayed_all nodes slots at last won = record { won = λ n positive inner. won.won n (omega arith) inner (omega arith) (omega arith) }
 
-pub played_from : (nodes new : Nodes) (slots at down : ℕ) → length nodes ≡ slots + slots → at ≡ down + 1 → 0 < down → at ≤ slots → new ≡ slice_set nodes down (match_at nodes down) → IsWonFrom nodes slots at → IsWonFrom new slots down
+pub played_from : (nodes new : Nodes) (slots at down : ℕ) → length nodes ≡ slots + slots → at ≡ down + 1 → 0 < down → at ≤ slots → new ≡ slice_set nodes down (match_at nodes down) →
+    IsWonFrom nodes slots at → IsWonFrom new slots down
 played_from nodes new slots at down len next positive within is won = record {
   won = λ n from inner. elim (cases_eq n down) [
     | inl same ↦ subst (λ (m : ℕ). node_at new m ≡ match_at new m) (sym same) (play_here nodes new down positive (omega arith) is)
@@ -167,7 +171,8 @@ module _ (nodes : Nodes) (slots : ℕ) (won : IsWonFrom nodes slots 1) where
       ]
 
   -- a candidate at a node is that of its slot
-  pub from_slot : ((slot : ℕ) (c : Candidate) → node_at nodes (slots + slot) ≡ Some c → c.slot ≡ slot) → (left n : ℕ) (c : Candidate) → 0 < n → slots ≤ n + left → n < slots + slots → node_at nodes n ≡ Some c → (c.slot < slots) × (node_at nodes (slots + c.slot) ≡ Some c)
+  pub from_slot : ((slot : ℕ) (c : Candidate) → node_at nodes (slots + slot) ≡ Some c → c.slot ≡ slot) → (left n : ℕ) (c : Candidate) → 0 < n → slots ≤ n + left → n < slots + slots →
+      node_at nodes n ≡ Some c → (c.slot < slots) × (node_at nodes (slots + c.slot) ≡ Some c)
   from_slot places zero n c positive near within is = at_place nodes slots places n c (omega arith) within is
   from_slot places (suc left) n c positive near within is =
       elim (in_order n slots) [
@@ -193,7 +198,8 @@ past_replicate n i =
 past_long : (old : Nodes) (more i : ℕ) → length old ≤ i → node_at (old ++ replicate more None) i ≡ None
 past_long old more i past = get_or-append_right old (replicate more None) i None past ∙ past_replicate more (i - length old)
 
-pub enlarged : (old long moved new : Nodes) (slots wanted : ℕ) → length old ≡ slots + slots → slots + slots ≤ wanted → long ≡ old ++ replicate (wanted + wanted - length old) None → IsMoved long moved slots wanted → SameFrom moved new wanted → IsEnlarged old new slots wanted
+pub enlarged : (old long moved new : Nodes) (slots wanted : ℕ) → length old ≡ slots + slots → slots + slots ≤ wanted → long ≡ old ++ replicate (wanted + wanted - length old) None →
+    IsMoved long moved slots wanted → SameFrom moved new wanted → IsEnlarged old new slots wanted
 enlarged old long moved new slots wanted len more is shift kept =
     let long_len : length long ≡ length old + (wanted + wanted - length old) =
     ap length is ∙ length-append old _ ∙ ap (λ (n : ℕ). length old + n) (length-replicate (wanted + wanted - length old) None) in
@@ -259,7 +265,8 @@ module _ {A : Type 0} where
       let nodes : Nodes = d.nodes.items in
       offer_at_node d slot ∙ none_wins nodes d.slots played slot is (node_at nodes (d.slots + slot)) refl
     where
-      none_wins : (nodes : Nodes) (slots : ℕ) → IsPlayed d → (slot : ℕ) → node_at d.nodes.items 1 ≡ None → (x : Option Candidate) → node_at d.nodes.items (d.slots + slot) ≡ x → key_in (node_at d.nodes.items (d.slots + slot)) ≡ None
+      none_wins : (nodes : Nodes) (slots : ℕ) → IsPlayed d → (slot : ℕ) → node_at d.nodes.items 1 ≡ None → (x : Option Candidate) → node_at d.nodes.items (d.slots + slot) ≡ x → key_in
+          (node_at d.nodes.items (d.slots + slot)) ≡ None
       none_wins nodes slots played slot is None e = ap key_in e
       none_wins nodes slots played slot is (Some b) e =
           let inside : d.slots + slot < length d.nodes.items = present_within d.nodes.items (d.slots + slot) b e in
@@ -267,7 +274,8 @@ module _ {A : Type 0} where
           absurd (cc)
 
   -- a slot's own node has another candidate
-  pub put_played : (d : Inside A) (new : Inside A) (slot : ℕ) (k : Option Bytes) → IsPlayed d → slot < d.slots → new.slots ≡ d.slots → IsPut d.nodes.items new.nodes.items d.slots slot (candidate_of k slot) → IsWonFrom new.nodes.items d.slots 1 → IsPlayed new
+  pub put_played : (d : Inside A) (new : Inside A) (slot : ℕ) (k : Option Bytes) → IsPlayed d → slot < d.slots → new.slots ≡ d.slots →
+      IsPut d.nodes.items new.nodes.items d.slots slot (candidate_of k slot) → IsWonFrom new.nodes.items d.slots 1 → IsPlayed new
   put_played d new slot k played within slots put won =
       record {
         nodes = put.len ∙ played.nodes ∙ ap (λ (n : ℕ). n + n) (sym slots);
@@ -278,7 +286,8 @@ module _ {A : Type 0} where
         won = rw slots won;
       }
 
-  pub put_offers : (d : Inside A) (new : Inside A) (slot : ℕ) (k : Option Bytes) → IsPlayed d → IsPlayed new → slot < d.slots → new.slots ≡ d.slots → IsPut d.nodes.items new.nodes.items d.slots slot (candidate_of k slot) → offers_of new ≡ slice_set (offers_of d) slot k
+  pub put_offers : (d : Inside A) (new : Inside A) (slot : ℕ) (k : Option Bytes) → IsPlayed d → IsPlayed new → slot < d.slots → new.slots ≡ d.slots →
+      IsPut d.nodes.items new.nodes.items d.slots slot (candidate_of k slot) → offers_of new ≡ slice_set (offers_of d) slot k
   put_offers d new slot k played again within slots put =
       same_lists _ _
       (length-offers new again ∙ slots ∙ sym (length-set (offers_of d) slot k ∙ length-offers d played))

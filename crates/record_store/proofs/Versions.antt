@@ -6,30 +6,30 @@ use Rattle.std.proofs.lemmas.List.{get_or_past, set-get_or}
 use Rattle.std.specs.Option.{option_and_then}
 use Rattle.procedure.specs.Bytes.{Bytes, same}
 use Rattle.procedure.proofs.Base.{keys, same_refl}
-use Rattle.record_store.specs.Stores.{Record, Slots, Finds, IsOnce, at_rest, changed, key_at, new_record, reclaimed, record_at, unless_dead, with_aside, with_record}
+use Rattle.record_store.specs.Stores.{StoreRecord, Slots, Finds, HasKeysOnce, record_at_rest, changed, key_at, new_record, reclaimed, record_at, unless_dead, with_aside, with_record}
 use Rattle.record_store.specs.Versions.{Holds, KeepsKey, Version, new_version, rested, version, version_of}
 use Rattle.record_store.proofs.Fields.{edited_here, not_found}
 use Rattle.record_store.proofs.Making.{at_with_here, at_with_other}
 
 -- WHAT A KEY HAS
 
-key_of_record : (slots : Slots) (i : ℕ) (r : Record) → record_at slots i ≡ Some r → key_at slots i ≡ Some r.key
+key_of_record : (slots : Slots) (i : ℕ) (r : StoreRecord) → record_at slots i ≡ Some r → key_at slots i ≡ Some r.key
 key_of_record slots i r is = ap (option_map (λ r. r.key)) is
 
-record_of : (o : Option Record) (key : Bytes) → option_map (λ r. r.key) o ≡ Some key → (r : Record) × (o ≡ Some r) × (r.key ≡ key)
+record_of : (o : Option StoreRecord) (key : Bytes) → option_map (λ r. r.key) o ≡ Some key → (r : StoreRecord) × (o ≡ Some r) × (r.key ≡ key)
 record_of None key is = absurd (cc)
 record_of (Some r) key is = (r, refl, cc)
 
 -- the record of a slot with a key
-pub record_with : (slots : Slots) (i : ℕ) (key : Bytes) → key_at slots i ≡ Some key → (r : Record) × (record_at slots i ≡ Some r) × (r.key ≡ key)
+pub record_with : (slots : Slots) (i : ℕ) (key : Bytes) → key_at slots i ≡ Some key → (r : StoreRecord) × (record_at slots i ≡ Some r) × (r.key ≡ key)
 record_with slots i key is = record_of (record_at slots i) key is
 
 -- one slot, and the slots after it
-first_has : (r : Record) (slots : Slots) (key : Bytes) → key ≡ r.key → version_of (Some r ∷ slots) key ≡ Some (version r)
+first_has : (r : StoreRecord) (slots : Slots) (key : Bytes) → key ≡ r.key → version_of (Some r ∷ slots) key ≡ Some (version r)
 unfolding version_of
 first_has r slots key is = ap (λ b. cond b (Some (version r)) (version_of slots key)) (ap (λ (k : Bytes). same k r.key) is ∙ same_refl r.key)
 
-first_lacks : (r : Record) (slots : Slots) (key : Bytes) → same key r.key ≡ false → version_of (Some r ∷ slots) key ≡ version_of slots key
+first_lacks : (r : StoreRecord) (slots : Slots) (key : Bytes) → same key r.key ≡ false → version_of (Some r ∷ slots) key ≡ version_of slots key
 unfolding version_of
 first_lacks r slots key is = ap (λ b. cond b (Some (version r)) (version_of slots key)) is
 
@@ -44,7 +44,7 @@ version_of-new key = refl
 not_same : (x y : Bytes) → x ≢ y → same x y ≡ false
 not_same x y differs = elim (keys x y) [ inl e ↦ absurd (differs e) | inr f ↦ f ]
 
-later : (s : Option Record) (slots : Slots) (key : Bytes) (v : Version) → Holds slots key v → Holds (s ∷ slots) key v
+later : (s : Option StoreRecord) (slots : Slots) (key : Bytes) (v : Version) → Holds slots key v → Holds (s ∷ slots) key v
 later s slots key v h = record { slot = suc h.slot; kept = h.kept; there = h.there; key_is = h.key_is; version_is = h.version_is }
 
 -- a version is that of a record
@@ -72,7 +72,7 @@ none_has (Some r ∷ slots) key none =
 -- no slot has a key without a version
 pub no_key : (slots : Slots) (key : Bytes) → version_of slots key ≡ None → (i : ℕ) → key_at slots i ≢ Some key
 no_key [] key none i is =
-    let vacant : key_at [] i ≡ None = ap (option_map (λ (r : Record). r.key)) (get_or_past [] i None (omega arith)) in
+    let vacant : key_at [] i ≡ None = ap (option_map (λ (r : StoreRecord). r.key)) (get_or_past [] i None (omega arith)) in
     absurd (cc)
 no_key (None ∷ slots) key none zero is = absurd (cc)
 no_key (None ∷ slots) key none (suc i) is = no_key slots key (sym (vacant_first slots key) ∙ none) i is
@@ -87,20 +87,21 @@ no_key (Some r ∷ slots) key none (suc i) is =
       | inr f ↦ no_key slots key (sym (first_lacks r slots key f) ∙ none) i is
     ]
 
-holds_of : (slots : Slots) (key : Bytes) (v : Version) → IsOnce slots → Holds slots key v → (o : Option Version) → version_of slots key ≡ o → o ≡ Some v
+holds_of : (slots : Slots) (key : Bytes) (v : Version) → HasKeysOnce slots → Holds slots key v → (o : Option Version) → version_of slots key ≡ o → o ≡ Some v
 holds_of slots key v once h None is = absurd (no_key slots key is h.slot (key_of_record slots h.slot h.kept h.there ∙ ap (λ (k : Bytes). Some k) h.key_is))
 holds_of slots key v once h (Some w) is =
     let other = version_some slots key w is in
-    let i : other.slot ≡ h.slot = once.once other.slot h.slot key (key_of_record slots other.slot other.kept other.there ∙ ap (λ (k : Bytes). Some k) other.key_is) (key_of_record slots h.slot h.kept h.there ∙ ap (λ (k : Bytes). Some k) h.key_is) in
+    let i : other.slot ≡ h.slot = once.once other.slot h.slot key (key_of_record slots other.slot other.kept other.there ∙ ap (λ (k : Bytes). Some k) other.key_is)
+    (key_of_record slots h.slot h.kept h.there ∙ ap (λ (k : Bytes). Some k) h.key_is) in
     let one : Some other.kept ≡ Some h.kept = sym other.there ∙ ap (record_at slots) i ∙ h.there in
     let r : other.kept ≡ h.kept = cc in
     ap (λ (v : Version). Some v) (sym other.version_is ∙ ap version r ∙ h.version_is)
 
 -- the version of a record
-pub version_held : (slots : Slots) (key : Bytes) (v : Version) → IsOnce slots → Holds slots key v → version_of slots key ≡ Some v
+pub version_held : (slots : Slots) (key : Bytes) (v : Version) → HasKeysOnce slots → Holds slots key v → version_of slots key ≡ Some v
 version_held slots key v once h = holds_of slots key v once h (version_of slots key) refl
 
-pub version_found : (slots : Slots) (i : ℕ) (r : Record) → IsOnce slots → record_at slots i ≡ Some r → version_of slots r.key ≡ Some (version r)
+pub version_found : (slots : Slots) (i : ℕ) (r : StoreRecord) → HasKeysOnce slots → record_at slots i ≡ Some r → version_of slots r.key ≡ Some (version r)
 version_found slots i r once is = version_held slots r.key (version r) once record { slot = i; kept = r; there = is; key_is = refl; version_is = refl }
 
 -- WHAT A SEARCH FINDS
@@ -112,10 +113,10 @@ pub finds_none : (slots : Slots) (key : Bytes) → version_of slots key ≡ None
 finds_none slots key none = record { only = λ i. (λ e. absurd (cc), λ e. absurd (no_key slots key none i e)) }
 
 -- the record that is found has the key and its version
-pub record_found : (slots : Slots) (key : Bytes) (i : ℕ) → Finds slots key (Some i) → (r : Record) × (record_at slots i ≡ Some r) × (r.key ≡ key)
+pub record_found : (slots : Slots) (key : Bytes) (i : ℕ) → Finds slots key (Some i) → (r : StoreRecord) × (record_at slots i ≡ Some r) × (r.key ≡ key)
 record_found slots key i finds = record_with slots i key ((finds.only i).0 refl)
 
-pub finds_record : (slots : Slots) (i : ℕ) (r : Record) → IsOnce slots → record_at slots i ≡ Some r → Finds slots r.key (Some i)
+pub finds_record : (slots : Slots) (i : ℕ) (r : StoreRecord) → HasKeysOnce slots → record_at slots i ≡ Some r → Finds slots r.key (Some i)
 finds_record slots i r once is = record {
   only = λ j. (
     λ e. let same : i ≡ j = cc in ap (key_at slots) (sym same) ∙ key_of_record slots i r is,
@@ -126,11 +127,12 @@ finds_record slots i r once is = record {
 -- WHAT A CHANGE MAKES OF THEM
 
 -- a vacant slot, and one that has another key
-pub changed_vacant : (f : Record → Record) (slots : Slots) (i : ℕ) → record_at slots i ≡ None → changed f slots i ≡ slots
+pub changed_vacant : (f : StoreRecord → StoreRecord) (slots : Slots) (i : ℕ) → record_at slots i ≡ None → changed f slots i ≡ slots
 changed_vacant f slots i none = ap (slice_set slots i) (ap (option_map f) none ∙ sym none) ∙ set-get_or slots i None
 
 -- a slot that lacks the key before and after
-set_other : (slots : Slots) (i : ℕ) (x : Option Record) (key : Bytes) → key_at slots i ≢ Some key → option_map (λ r. r.key) x ≢ Some key → version_of (slice_set slots i x) key ≡ version_of slots key
+set_other : (slots : Slots) (i : ℕ) (x : Option StoreRecord) (key : Bytes) → key_at slots i ≢ Some key → option_map (λ r. r.key) x ≢ Some key →
+    version_of (slice_set slots i x) key ≡ version_of slots key
 set_other [] i x key before after = refl
 set_other (None ∷ slots) zero None key before after = refl
 set_other (None ∷ slots) zero (Some r) key before after = first_lacks r slots key (not_same key r.key (λ e. after (ap (λ (k : Bytes). Some k) (sym e)))) ∙ sym (vacant_first slots key)
@@ -146,37 +148,42 @@ set_other (Some s ∷ slots) (suc i) x key before after =
     ]
 
 -- no key is new
-keys_fewer : (slots after : Slots) → ((i : ℕ) (key : Bytes) → key_at after i ≡ Some key → key_at slots i ≡ Some key) → IsOnce slots → IsOnce after
+keys_fewer : (slots after : Slots) → ((i : ℕ) (key : Bytes) → key_at after i ≡ Some key → key_at slots i ≡ Some key) → HasKeysOnce slots → HasKeysOnce after
 keys_fewer slots after fewer once = record { once = λ i j key one two. once.once i j key (fewer i key one) (fewer j key two) }
 
-edit_keys : (g : Option Record → Option Record) → g None ≡ None → ((o : Option Record) (key : Bytes) → option_map (λ r. r.key) (g o) ≡ Some key → option_map (λ r. r.key) o ≡ Some key) → (slots : Slots) (i j : ℕ) (key : Bytes) → key_at (slice_set slots i (g (record_at slots i))) j ≡ Some key → key_at slots j ≡ Some key
+edit_keys : (g : Option StoreRecord → Option StoreRecord) → g None ≡ None → ((o : Option StoreRecord) (key : Bytes) → option_map (λ r. r.key) (g o) ≡ Some key → option_map (λ r. r.key) o ≡ Some key) →
+    (slots : Slots) (i j : ℕ) (key : Bytes) → key_at (slice_set slots i (g (record_at slots i))) j ≡ Some key → key_at slots j ≡ Some key
 edit_keys g none keeps slots i j key is =
     elim (cases_eq j i) [
       | inl same ↦
-          let there : option_map (λ (r : Record). r.key) (g (record_at slots i)) ≡ Some key = ap (option_map (λ (r : Record). r.key)) (sym (edited_here g none slots i)) ∙ ap (key_at (slice_set slots i (g (record_at slots i)))) (sym same) ∙ is in
+          let there : option_map (λ (r : StoreRecord). r.key) (g (record_at slots i)) ≡ Some key = ap (option_map (λ (r : StoreRecord). r.key)) (sym (edited_here g none slots i)) ∙
+          ap (key_at (slice_set slots i (g (record_at slots i)))) (sym same) ∙ is in
           ap (key_at slots) same ∙ keeps (record_at slots i) key there
-      | inr differs ↦ ap (option_map (λ (r : Record). r.key)) (sym (get_or-set_other slots i j (g (record_at slots i)) None differs)) ∙ is
+      | inr differs ↦ ap (option_map (λ (r : StoreRecord). r.key)) (sym (get_or-set_other slots i j (g (record_at slots i)) None differs)) ∙ is
     ]
 
-mapped_key : (f : Record → Record) → KeepsKey f → (o : Option Record) → option_map (λ r. r.key) (option_map f o) ≡ option_map (λ r. r.key) o
+mapped_key : (f : StoreRecord → StoreRecord) → KeepsKey f → (o : Option StoreRecord) → option_map (λ r. r.key) (option_map f o) ≡ option_map (λ r. r.key) o
 mapped_key f keeps None = refl
 mapped_key f keeps (Some r) = ap (λ (k : Bytes). Some k) (keeps r)
 
-pub once_changed : (f : Record → Record) (slots : Slots) (i : ℕ) → KeepsKey f → IsOnce slots → IsOnce (changed f slots i)
+pub once_changed : (f : StoreRecord → StoreRecord) (slots : Slots) (i : ℕ) → KeepsKey f → HasKeysOnce slots → HasKeysOnce (changed f slots i)
 once_changed f slots i keeps once = keys_fewer slots (changed f slots i) (edit_keys (option_map f) refl (λ o key is. sym (mapped_key f keeps o) ∙ is) slots i) once
 
-pub changed_here : (f : Record → Record) (slots : Slots) (i : ℕ) (r : Record) → KeepsKey f → IsOnce slots → record_at slots i ≡ Some r → version_of (changed f slots i) r.key ≡ Some (version (f r))
+pub changed_here : (f : StoreRecord → StoreRecord) (slots : Slots) (i : ℕ) (r : StoreRecord) → KeepsKey f → HasKeysOnce slots → record_at slots i ≡ Some r →
+    version_of (changed f slots i) r.key ≡ Some (version (f r))
 changed_here f slots i r keeps once is =
     ap (version_of (changed f slots i)) (sym (keeps r))
     ∙ version_found (changed f slots i) i (f r) (once_changed f slots i keeps once) (edited_here (option_map f) refl slots i ∙ ap (option_map f) is)
 
-pub changed_other : (f : Record → Record) (slots : Slots) (i : ℕ) (r : Record) (key : Bytes) → KeepsKey f → record_at slots i ≡ Some r → key ≢ r.key → version_of (changed f slots i) key ≡ version_of slots key
+pub changed_other : (f : StoreRecord → StoreRecord) (slots : Slots) (i : ℕ) (r : StoreRecord) (key : Bytes) → KeepsKey f → record_at slots i ≡ Some r → key ≢ r.key →
+    version_of (changed f slots i) key ≡ version_of slots key
 changed_other f slots i r key keeps is differs =
     let lacks : (key_at slots i ≢ Some key) = (λ e. let one : Some r.key ≡ Some key = sym (key_of_record slots i r is) ∙ e in differs (cc)) in
     set_other slots i (option_map f (record_at slots i)) key lacks (λ e. lacks (sym (mapped_key f keeps (record_at slots i)) ∙ e))
 
 -- the key has a new version, and the others have theirs
-by_key : (slots after : Slots) (k key : Bytes) (o : Option Version) → version_of after k ≡ o → (key ≢ k → version_of after key ≡ version_of slots key) → version_of after key ≡ cond (same key k) o (version_of slots key)
+by_key : (slots after : Slots) (k key : Bytes) (o : Option Version) → version_of after k ≡ o → (key ≢ k → version_of after key ≡ version_of slots key) →
+    version_of after key ≡ cond (same key k) o (version_of slots key)
 by_key slots after k key o here others =
     elim (keys key k) [
       | inl e ↦ ap (version_of after) e ∙ here ∙ sym (ap (λ b. cond b o (version_of slots key)) (ap (λ (q : Bytes). same q k) e ∙ same_refl k))
@@ -185,11 +192,13 @@ by_key slots after k key o here others =
           ∙ sym (ap (λ b. cond b o (version_of slots key)) f)
     ]
 
-pub version_of-changed : (f : Record → Record) (slots : Slots) (i : ℕ) (r : Record) (key : Bytes) → KeepsKey f → IsOnce slots → record_at slots i ≡ Some r → version_of (changed f slots i) key ≡ cond (same key r.key) (Some (version (f r))) (version_of slots key)
+pub version_of-changed : (f : StoreRecord → StoreRecord) (slots : Slots) (i : ℕ) (r : StoreRecord) (key : Bytes) → KeepsKey f → HasKeysOnce slots → record_at slots i ≡ Some r →
+    version_of (changed f slots i) key ≡ cond (same key r.key) (Some (version (f r))) (version_of slots key)
 version_of-changed f slots i r key keeps once is = by_key slots (changed f slots i) r.key key _ (changed_here f slots i r keeps once is) (changed_other f slots i r key keeps is)
 
 -- a change of each record, and one that no version shows
-pub version_of-map : (f : Record → Record) (g : Version → Version) → KeepsKey f → ((r : Record) → version (f r) ≡ g (version r)) → (slots : Slots) (key : Bytes) → version_of (map (option_map f) slots) key ≡ option_map g (version_of slots key)
+pub version_of-map : (f : StoreRecord → StoreRecord) (g : Version → Version) → KeepsKey f → ((r : StoreRecord) → version (f r) ≡ g (version r)) → (slots : Slots) (key : Bytes) →
+    version_of (map (option_map f) slots) key ≡ option_map g (version_of slots key)
 version_of-map f g keeps shows [] key = version_of-new key ∙ sym (ap (option_map g) (version_of-new key))
 version_of-map f g keeps shows (None ∷ slots) key = vacant_first (map (option_map f) slots) key ∙ version_of-map f g keeps shows slots key ∙ sym (ap (option_map g) (vacant_first slots key))
 version_of-map f g keeps shows (Some r ∷ slots) key =
@@ -200,18 +209,21 @@ version_of-map f g keeps shows (Some r ∷ slots) key =
           first_lacks (f r) (map (option_map f) slots) key (ap (same key) (keeps r) ∙ n) ∙ version_of-map f g keeps shows slots key ∙ sym (ap (option_map g) (first_lacks r slots key n))
     ]
 
-pub version_of-rested : (slots : Slots) (key : Bytes) → version_of (map (option_map at_rest) slots) key ≡ option_map rested (version_of slots key)
-version_of-rested slots key = version_of-map at_rest rested (λ r. refl) (λ r. refl) slots key
+pub version_of-rested : (slots : Slots) (key : Bytes) → version_of (map (option_map record_at_rest) slots) key ≡ option_map rested (version_of slots key)
+version_of-rested slots key = version_of-map record_at_rest rested (λ r. refl) (λ r. refl) slots key
 
-pub once_map : (f : Record → Record) (slots : Slots) → KeepsKey f → IsOnce slots → IsOnce (map (option_map f) slots)
+pub once_map : (f : StoreRecord → StoreRecord) (slots : Slots) → KeepsKey f → HasKeysOnce slots → HasKeysOnce (map (option_map f) slots)
 once_map f slots keeps once =
-    keys_fewer slots (map (option_map f) slots) (λ i key is. sym (mapped_key f keeps (record_at slots i)) ∙ ap (option_map (λ (r : Record). r.key)) (sym (get_or-map (option_map f) slots i None)) ∙ is) once
+    keys_fewer slots (map (option_map f) slots) (λ i key is. sym (mapped_key f keeps (record_at slots i)) ∙
+    ap (option_map (λ (r : StoreRecord). r.key)) (sym (get_or-map (option_map f) slots i None)) ∙ is)
+    once
 
-pub once_rested : (slots : Slots) → IsOnce slots → IsOnce (map (option_map at_rest) slots)
-once_rested slots once = once_map at_rest slots (λ r. refl) once
+pub once_rested : (slots : Slots) → HasKeysOnce slots → HasKeysOnce (map (option_map record_at_rest) slots)
+once_rested slots once = once_map record_at_rest slots (λ r. refl) once
 
 -- a change that no version shows
-pub version_of-unseen : (f : Record → Record) → KeepsKey f → ((r : Record) → version (f r) ≡ version r) → (slots : Slots) (i : ℕ) (key : Bytes) → version_of (changed f slots i) key ≡ version_of slots key
+pub version_of-unseen : (f : StoreRecord → StoreRecord) → KeepsKey f → ((r : StoreRecord) → version (f r) ≡ version r) → (slots : Slots) (i : ℕ) (key : Bytes) →
+    version_of (changed f slots i) key ≡ version_of slots key
 version_of-unseen f keeps same_version [] i key = refl
 version_of-unseen f keeps same_version (None ∷ slots) zero key = refl
 version_of-unseen f keeps same_version (Some r ∷ slots) zero key =
@@ -231,7 +243,7 @@ version_of-aside aside slots i key = version_of-unseen (with_aside aside) (λ r.
 
 -- A RECORD MORE
 
-with_here : (slots : Slots) (i : ℕ) (r : Record) → ((j : ℕ) → key_at slots j ≢ Some r.key) → version_of (with_record slots i r) r.key ≡ Some (version r)
+with_here : (slots : Slots) (i : ℕ) (r : StoreRecord) → ((j : ℕ) → key_at slots j ≢ Some r.key) → version_of (with_record slots i r) r.key ≡ Some (version r)
 with_here [] zero r none = first_has r [] r.key refl
 with_here [] (suc i) r none = vacant_first (with_record [] i r) r.key ∙ with_here [] i r none
 with_here (s ∷ slots) zero r none = first_has r slots r.key refl
@@ -239,7 +251,7 @@ with_here (None ∷ slots) (suc i) r none = vacant_first (with_record slots i r)
 with_here (Some s ∷ slots) (suc i) r none =
     first_lacks s (with_record slots i r) r.key (not_same r.key s.key (λ e. none 0 (ap (λ (k : Bytes). Some k) (sym e)))) ∙ with_here slots i r (λ j. none (suc j))
 
-with_other : (slots : Slots) (i : ℕ) (r : Record) (key : Bytes) → record_at slots i ≡ None → key ≢ r.key → version_of (with_record slots i r) key ≡ version_of slots key
+with_other : (slots : Slots) (i : ℕ) (r : StoreRecord) (key : Bytes) → record_at slots i ≡ None → key ≢ r.key → version_of (with_record slots i r) key ≡ version_of slots key
 with_other [] zero r key vacant differs = first_lacks r [] key (not_same key r.key differs)
 with_other [] (suc i) r key vacant differs = vacant_first (with_record [] i r) key ∙ with_other [] i r key vacant differs
 with_other (None ∷ slots) zero r key vacant differs = first_lacks r slots key (not_same key r.key differs) ∙ sym (vacant_first slots key)
@@ -254,22 +266,25 @@ with_other (Some s ∷ slots) (suc i) r key vacant differs =
 pub created_here : (slots : Slots) (i : ℕ) (key : Bytes) (available : Bool) → Finds slots key None → version_of (with_record slots i (new_record key available)) key ≡ Some (new_version available)
 created_here slots i key available finds = with_here slots i (new_record key available) (λ j. not_found slots key j finds)
 
-pub created_other : (slots : Slots) (i : ℕ) (k : Bytes) (available : Bool) (key : Bytes) → record_at slots i ≡ None → key ≢ k → version_of (with_record slots i (new_record k available)) key ≡ version_of slots key
+pub created_other : (slots : Slots) (i : ℕ) (k : Bytes) (available : Bool) (key : Bytes) → record_at slots i ≡ None → key ≢ k →
+    version_of (with_record slots i (new_record k available)) key ≡ version_of slots key
 created_other slots i k available key vacant differs = with_other slots i (new_record k available) key vacant differs
 
-pub version_of-created : (slots : Slots) (i : ℕ) (k : Bytes) (available : Bool) (key : Bytes) → record_at slots i ≡ None → Finds slots k None → version_of (with_record slots i (new_record k available)) key ≡ cond (same key k) (Some (new_version available)) (version_of slots key)
-version_of-created slots i k available key vacant finds = by_key slots (with_record slots i (new_record k available)) k key _ (created_here slots i k available finds) (created_other slots i k available key vacant)
+pub version_of-created : (slots : Slots) (i : ℕ) (k : Bytes) (available : Bool) (key : Bytes) → record_at slots i ≡ None → Finds slots k None →
+    version_of (with_record slots i (new_record k available)) key ≡ cond (same key k) (Some (new_version available)) (version_of slots key)
+version_of-created slots i k available key vacant finds = by_key slots (with_record slots i (new_record k available)) k key _ (created_here slots i k available finds)
+    (created_other slots i k available key vacant)
 
-with_keys : (slots : Slots) (i : ℕ) (r : Record) (j : ℕ) (key : Bytes) → key_at (with_record slots i r) j ≡ Some key → ((j ≡ i) × (r.key ≡ key)) ⊎ (key_at slots j ≡ Some key)
+with_keys : (slots : Slots) (i : ℕ) (r : StoreRecord) (j : ℕ) (key : Bytes) → key_at (with_record slots i r) j ≡ Some key → ((j ≡ i) × (r.key ≡ key)) ⊎ (key_at slots j ≡ Some key)
 with_keys slots i r j key is =
     elim (cases_eq j i) [
       | inl e ↦
-          let one : Some r.key ≡ Some key = sym (ap (key_at (with_record slots i r)) e ∙ ap (option_map (λ (r : Record). r.key)) (at_with_here slots i r)) ∙ is in
+          let one : Some r.key ≡ Some key = sym (ap (key_at (with_record slots i r)) e ∙ ap (option_map (λ (r : StoreRecord). r.key)) (at_with_here slots i r)) ∙ is in
           inl (e, cc)
-      | inr differs ↦ inr (ap (option_map (λ (r : Record). r.key)) (sym (at_with_other slots i r j differs)) ∙ is)
+      | inr differs ↦ inr (ap (option_map (λ (r : StoreRecord). r.key)) (sym (at_with_other slots i r j differs)) ∙ is)
     ]
 
-once_with : (slots : Slots) (i : ℕ) (r : Record) → ((j : ℕ) → key_at slots j ≢ Some r.key) → IsOnce slots → IsOnce (with_record slots i r)
+once_with : (slots : Slots) (i : ℕ) (r : StoreRecord) → ((j : ℕ) → key_at slots j ≢ Some r.key) → HasKeysOnce slots → HasKeysOnce (with_record slots i r)
 once_with slots i r none once = record {
   once = λ m n key one two. elim (with_keys slots i r m key one) [
     | inl a ↦ elim (with_keys slots i r n key two) [
@@ -283,44 +298,45 @@ once_with slots i r none once = record {
   ];
 }
 
-pub once_created : (slots : Slots) (i : ℕ) (key : Bytes) (available : Bool) → Finds slots key None → IsOnce slots → IsOnce (with_record slots i (new_record key available))
+pub once_created : (slots : Slots) (i : ℕ) (key : Bytes) (available : Bool) → Finds slots key None → HasKeysOnce slots → HasKeysOnce (with_record slots i (new_record key available))
 once_created slots i key available finds once = once_with slots i (new_record key available) (λ j. not_found slots key j finds) once
 
 -- A RECORD LESS
 
-unless_key_by : (r : Record) (key : Bytes) (b : Bool) → option_map (λ r. r.key) (cond b None (Some r)) ≡ Some key → Some r.key ≡ Some key
+unless_key_by : (r : StoreRecord) (key : Bytes) (b : Bool) → option_map (λ r. r.key) (cond b None (Some r)) ≡ Some key → Some r.key ≡ Some key
 unless_key_by r key true is = absurd (cc)
 unless_key_by r key false is = is
 
-unless_key : (o : Option Record) (key : Bytes) → option_map (λ r. r.key) (option_and_then unless_dead o) ≡ Some key → option_map (λ r. r.key) o ≡ Some key
+unless_key : (o : Option StoreRecord) (key : Bytes) → option_map (λ r. r.key) (option_and_then unless_dead o) ≡ Some key → option_map (λ r. r.key) o ≡ Some key
 unless_key None key is = is
 unless_key (Some r) key is = unless_key_by r key (is_none r.live) is
 
-pub once_reclaimed : (slots : Slots) (i : ℕ) → IsOnce slots → IsOnce (reclaimed slots i)
+pub once_reclaimed : (slots : Slots) (i : ℕ) → HasKeysOnce slots → HasKeysOnce (reclaimed slots i)
 once_reclaimed slots i once = keys_fewer slots (reclaimed slots i) (edit_keys (option_and_then unless_dead) refl unless_key slots i) once
 
-dead_goes : (r : Record) → r.live ≡ None → unless_dead r ≡ None
+dead_goes : (r : StoreRecord) → r.live ≡ None → unless_dead r ≡ None
 dead_goes r dead = ap (λ b. cond b None (Some r)) (ap is_none dead)
 
-pub reclaimed_here : (slots : Slots) (i : ℕ) (r : Record) → IsOnce slots → record_at slots i ≡ Some r → r.live ≡ None → version_of (reclaimed slots i) r.key ≡ None
+pub reclaimed_here : (slots : Slots) (i : ℕ) (r : StoreRecord) → HasKeysOnce slots → record_at slots i ≡ Some r → r.live ≡ None → version_of (reclaimed slots i) r.key ≡ None
 reclaimed_here slots i r once is dead =
     none_has (reclaimed slots i) r.key (λ j there.
     let was : key_at slots j ≡ Some r.key = edit_keys (option_and_then unless_dead) refl unless_key slots i j r.key there in
     let j_is : j ≡ i = once.once j i r.key was (key_of_record slots i r is) in
     let gone : record_at (reclaimed slots i) i ≡ None = edited_here (option_and_then unless_dead) refl slots i ∙ ap (option_and_then unless_dead) is ∙ dead_goes r dead in
-    let none : key_at (reclaimed slots i) j ≡ None = ap (key_at (reclaimed slots i)) j_is ∙ ap (option_map (λ (r : Record). r.key)) gone in
+    let none : key_at (reclaimed slots i) j ≡ None = ap (key_at (reclaimed slots i)) j_is ∙ ap (option_map (λ (r : StoreRecord). r.key)) gone in
     absurd (cc))
 
-pub reclaimed_other : (slots : Slots) (i : ℕ) (r : Record) (key : Bytes) → record_at slots i ≡ Some r → key ≢ r.key → version_of (reclaimed slots i) key ≡ version_of slots key
+pub reclaimed_other : (slots : Slots) (i : ℕ) (r : StoreRecord) (key : Bytes) → record_at slots i ≡ Some r → key ≢ r.key → version_of (reclaimed slots i) key ≡ version_of slots key
 reclaimed_other slots i r key is differs =
     let lacks : (key_at slots i ≢ Some key) = (λ e. let one : Some r.key ≡ Some key = sym (key_of_record slots i r is) ∙ e in differs (cc)) in
     set_other slots i (option_and_then unless_dead (record_at slots i)) key lacks (λ e. lacks (unless_key (record_at slots i) key e))
 
-pub version_of-reclaimed : (slots : Slots) (i : ℕ) (r : Record) (key : Bytes) → IsOnce slots → record_at slots i ≡ Some r → r.live ≡ None → version_of (reclaimed slots i) key ≡ cond (same key r.key) None (version_of slots key)
+pub version_of-reclaimed : (slots : Slots) (i : ℕ) (r : StoreRecord) (key : Bytes) → HasKeysOnce slots → record_at slots i ≡ Some r → r.live ≡ None →
+    version_of (reclaimed slots i) key ≡ cond (same key r.key) None (version_of slots key)
 version_of-reclaimed slots i r key once is dead = by_key slots (reclaimed slots i) r.key key None (reclaimed_here slots i r once is dead) (reclaimed_other slots i r key is)
 
 -- a slot without a dead record stays
-pub reclaimed_live : (slots : Slots) (i : ℕ) (r : Record) (v : Bytes) → record_at slots i ≡ Some r → r.live ≡ Some v → reclaimed slots i ≡ slots
+pub reclaimed_live : (slots : Slots) (i : ℕ) (r : StoreRecord) (v : Bytes) → record_at slots i ≡ Some r → r.live ≡ Some v → reclaimed slots i ≡ slots
 reclaimed_live slots i r v is live = ap (slice_set slots i) (ap (option_and_then unless_dead) is ∙ ap (λ b. cond b None (Some r)) (ap is_none live) ∙ sym is) ∙ set-get_or slots i None
 
 pub reclaimed_vacant : (slots : Slots) (i : ℕ) → record_at slots i ≡ None → reclaimed slots i ≡ slots

@@ -5,12 +5,12 @@ use Rattle.std.specs.Cmp.Lexicographic.{pointwise, slice_cmp}
 use Rattle.std.specs.List.Sorted.{IsStrictlySortedBy}
 use Rattle.indexmap.specs.IndexSet.{IsUnique, index_set_len, spare}
 use Rattle.procedure.specs.Bytes.{Bytes}
-use Rattle.record_store.specs.ChangedSets.{ChangedSets, KeySet, no_keys, with_keys}
+use Rattle.record_store.specs.ChangedSets.{ChangedSets, KeySet, empty_set, with_members}
 use Rattle.record_store.specs.declared.changed_sets.Changed.TheInside.{Inside}
 
 -- the set of these keys
 abbrev pub set_of : List Bytes → KeySet
-set_of ks = with_keys no_keys ks
+set_of ks = with_members empty_set ks
 
 abbrev pub sets_of : {A : Type 0} → Inside A → ChangedSets
 sets_of c = record { collecting = set_of c.collecting.keys; frozen = set_of c.frozen.items; places = c.places }

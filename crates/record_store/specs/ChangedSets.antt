@@ -10,19 +10,19 @@ use Rattle.procedure.specs.Table.{KeyMap}
 abbrev pub KeySet : Type 0
 KeySet = KeyMap (Unit {0})
 
-abbrev pub no_keys : KeySet
-no_keys = map.empty
+abbrev pub empty_set : KeySet
+empty_set = map.empty
 
 -- is the key in the set?
 abbrev pub has : KeySet → Bytes → Bool
 has s k = map.contains_key s k
 
-abbrev pub with_key : KeySet → Bytes → KeySet
-with_key s k = map.insert s k tt
+abbrev pub with_member : KeySet → Bytes → KeySet
+with_member s k = map.insert s k tt
 
-abbrev pub with_keys : KeySet → List Bytes → KeySet
-with_keys s [] = s
-with_keys s (k ∷ ks) = with_key (with_keys s ks) k
+abbrev pub with_members : KeySet → List Bytes → KeySet
+with_members s [] = s
+with_members s (k ∷ ks) = with_member (with_members s ks) k
 
 -- the keys of a set, least first
 abbrev pub keys_of : KeySet → List Bytes
@@ -30,7 +30,7 @@ keys_of s = map.keys s
 
 -- the keys of either
 abbrev pub union : KeySet → KeySet → KeySet
-union s t = with_keys s (keys_of t)
+union s t = with_members s (keys_of t)
 
 -- how many keys
 abbrev pub count : KeySet → ℕ
@@ -55,4 +55,5 @@ key_set_code = map.code (coded_list coded_ℕ) coded_unit
 
 abbrev pub changed_sets_code : Coded ChangedSets
 changed_sets_code =
-    code_by (KeySet × (KeySet × ℕ)) (coded× key_set_code (coded× key_set_code coded_ℕ)) (λ c. (c.collecting, (c.frozen, c.places))) (λ p. record { collecting = p.0; frozen = p.1.0; places = p.1.1 }) (λ _. refl)
+    code_by (KeySet × (KeySet × ℕ)) (coded× key_set_code (coded× key_set_code coded_ℕ)) (λ c. (c.collecting, (c.frozen, c.places))) (λ p. record { collecting = p.0; frozen = p.1.0; places = p.1.1 })
+    (λ _. refl)

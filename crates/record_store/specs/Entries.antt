@@ -4,7 +4,7 @@ use Rattle.std.specs.Option.{option_map, option_and_then, option_copied}
 use Rattle.std.specs.Borrow.{Bor}
 use Rattle.slab.specs.Slab.{Slab, get}
 use Rattle.procedure.specs.Bytes.{Bytes, Cell}
-use Rattle.record_store.specs.Stores.{Record}
+use Rattle.record_store.specs.Stores.{StoreRecord}
 use Rattle.record_store.specs.declared.records.Stable.{Stable}
 use Rattle.record_store.specs.declared.records.Stable.TheVariants.{Empty, Was}
 use Rattle.record_store.specs.declared.records.Entry.{Entry}
@@ -15,7 +15,7 @@ module _ {A : Type 0} where
   stable_seen number e = if e.copied == number then Was e.stable else Empty
 
   -- the record that an entry stands for, under the store's number
-  abbrev pub seen : ℕ → Entry A → Record
+  abbrev pub seen : ℕ → Entry A → StoreRecord
   seen number e = record { key = e.key; live = e.live; stable = stable_seen number e; available = e.mark == number; aside = e.aside }
 
   abbrev pub made : Bytes → ℕ → Entry A
@@ -67,5 +67,5 @@ lent_stable Empty = Empty
 lent_stable (Was v) = Was (option_copied v)
 
 -- what was lent of a record
-abbrev pub lent_record : {A : Type 0} → Lent A → Record
+abbrev pub lent_record : {A : Type 0} → Lent A → StoreRecord
 lent_record r = record { key = r.key; live = option_copied r.live; stable = lent_stable r.stable; available = r.available; aside = r.aside }

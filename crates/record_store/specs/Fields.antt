@@ -9,7 +9,7 @@ use Rattle.record_store.specs.DeadKeys.{offer_at}
 use Rattle.record_store.specs.Stores.{Slots}
 use Rattle.record_store.specs.Entries.{seen, offer_of}
 use Rattle.record_store.specs.declared.records.Entry.{Entry}
-use Rattle.record_store.specs.declared.limits.TheConstants.{RECORDS}
+use Rattle.record_store.specs.declared.limits.TheConstants.{STORE_RECORDS}
 use Rattle.record_store.specs.declared.stores.Store.TheInside.{Inside}
 
 -- the mark of a record under the store's number
@@ -42,4 +42,4 @@ module _ {A : Type 0} where
     pub used : (slot : ℕ) → s.used ≤ slot → get s.slots slot ≡ None
     pub places : s.used ≤ length s.dead
     pub offers : (slot : ℕ) → offer_at s.dead slot ≡ option_and_then offer_of (get s.slots slot)
-    pub few : slab_len s.slots ≤ RECORDS
+    pub few : slab_len s.slots ≤ STORE_RECORDS

@@ -9,7 +9,7 @@ use Rattle.record_store.specs.declared.stores.CreateError.{CreateError}
 use Rattle.record_store.specs.declared.stores.CreateError.TheVariants.{TableFull, NoMemory}
 
 -- a key with its live and its stable version; is it available? is it set aside from reclaim?
-pub record Record : Type 0 where
+pub record StoreRecord : Type 0 where
   pub key : Bytes
   pub live : Cell
   pub stable : Stable Cell
@@ -17,9 +17,9 @@ pub record Record : Type 0 where
   pub aside : Bool
 
 abbrev pub Slots : Type 0
-Slots = List (Option Record)
+Slots = List (Option StoreRecord)
 
-abbrev pub record_at : Slots → ℕ → Option Record
+abbrev pub record_at : Slots → ℕ → Option StoreRecord
 record_at slots slot = slice_index_or slots slot None
 
 -- the key whose record the slot holds
@@ -30,7 +30,7 @@ key_at slots slot = option_map (λ r. r.key) (record_at slots slot)
 abbrev pub live_at : Slots → ℕ → Cell
 live_at slots slot = option_and_then (λ r. r.live) (record_at slots slot)
 
-abbrev pub stable_of : Option Record → Stable Cell
+abbrev pub stable_of : Option StoreRecord → Stable Cell
 stable_of None = Empty
 stable_of (Some r) = r.stable
 
@@ -43,56 +43,56 @@ abbrev pub records : Slots → ℕ
 records slots = count_by is_some slots
 
 -- a record as it is made
-abbrev pub new_record : Bytes → Bool → Record
+abbrev pub new_record : Bytes → Bool → StoreRecord
 new_record key available = record { key = key; live = None; stable = Empty; available = available; aside = true }
 
 -- the slot holds the record; the slots that it has to come after are vacant, where there were fewer
-abbrev pub with_record : Slots → ℕ → Record → Slots
+abbrev pub with_record : Slots → ℕ → StoreRecord → Slots
 with_record [] zero r = Some r ∷ []
 with_record [] (suc n) r = None ∷ with_record [] n r
 with_record (s ∷ slots) zero r = Some r ∷ slots
 with_record (s ∷ slots) (suc n) r = s ∷ with_record slots n r
 
 -- the record in the slot is changed so; a vacant slot stays as it is
-abbrev pub changed : (Record → Record) → Slots → ℕ → Slots
+abbrev pub changed : (StoreRecord → StoreRecord) → Slots → ℕ → Slots
 changed f slots slot = slice_set slots slot (option_map f (record_at slots slot))
 
-abbrev pub with_live : Cell → Record → Record
+abbrev pub with_live : Cell → StoreRecord → StoreRecord
 with_live live r = record r { live = live }
 
-abbrev pub with_stable : Stable Cell → Record → Record
+abbrev pub with_stable : Stable Cell → StoreRecord → StoreRecord
 with_stable stable r = record r { stable = stable }
 
 -- its stable version is a copy of the live one
-abbrev pub with_copy : Record → Record
+abbrev pub with_copy : StoreRecord → StoreRecord
 with_copy r = record r { stable = Was r.live }
 
-abbrev pub with_available : Bool → Record → Record
+abbrev pub with_available : Bool → StoreRecord → StoreRecord
 with_available available r = record r { available = available }
 
-abbrev pub with_aside : Bool → Record → Record
+abbrev pub with_aside : Bool → StoreRecord → StoreRecord
 with_aside aside r = record r { aside = aside }
 
 -- as all records are when a checkpoint begins: not available, and without a stable version
-abbrev pub at_rest : Record → Record
-at_rest r = record r { stable = Empty; available = false }
+abbrev pub record_at_rest : StoreRecord → StoreRecord
+record_at_rest r = record r { stable = Empty; available = false }
 
 -- the key of a dead record that isn't set aside
-abbrev pub candidate_key : Record → Option Bytes
+abbrev pub candidate_key : StoreRecord → Option Bytes
 candidate_key r = if is_none r.live && not r.aside then Some r.key else None
 
 abbrev pub candidate_at : Slots → ℕ → Option Bytes
 candidate_at slots slot = option_and_then candidate_key (record_at slots slot)
 
 -- what is left of a record that is to go: nothing if it is dead
-abbrev pub unless_dead : Record → Option Record
+abbrev pub unless_dead : StoreRecord → Option StoreRecord
 unless_dead r = if is_none r.live then None else Some r
 
 abbrev pub reclaimed : Slots → ℕ → Slots
 reclaimed slots slot = slice_set slots slot (option_and_then unless_dead (record_at slots slot))
 
 -- no two slots have the same key
-pub record IsOnce (slots : Slots) : Type 0 where
+pub record HasKeysOnce (slots : Slots) : Type 0 where
   pub once : (i j : ℕ) (key : Bytes) → key_at slots i ≡ Some key → key_at slots j ≡ Some key → i ≡ j
 
 -- the slot whose record has the key, if there is one

@@ -1,7 +1,7 @@
 -- A store as a map from keys to versions, whatever the slots that the records stand in.
 use Rattle.std.specs.Prelude.{◌≡◌, ℕ, Bool, false, if◌then◌else◌, [], ◌∷◌, Option, Some, None}
 use Rattle.procedure.specs.Bytes.{Bytes, Cell, same}
-use Rattle.record_store.specs.Stores.{Record, Slots, record_at}
+use Rattle.record_store.specs.Stores.{StoreRecord, Slots, record_at}
 use Rattle.record_store.specs.declared.records.Stable.{Stable}
 use Rattle.record_store.specs.declared.records.Stable.TheVariants.{Empty}
 
@@ -11,7 +11,7 @@ pub record Version : Type 0 where
   pub stable : Stable Cell
   pub available : Bool
 
-abbrev pub version : Record → Version
+abbrev pub version : StoreRecord → Version
 version r = record { live = r.live; stable = r.stable; available = r.available }
 
 -- what the record with this key has; None, where no record has it
@@ -31,11 +31,11 @@ rested v = record v { stable = Empty; available = false }
 -- a slot whose record has the key and the version
 pub record Holds (slots : Slots) (key : Bytes) (v : Version) : Type 0 where
   pub slot : ℕ
-  pub kept : Record
+  pub kept : StoreRecord
   pub there : record_at slots slot ≡ Some kept
   pub key_is : kept.key ≡ key
   pub version_is : version kept ≡ v
 
 -- the change keeps each record's key
-abbrev pub KeepsKey : (Record → Record) → Type 0
-KeepsKey f = (r : Record) → (f r).key ≡ r.key
+abbrev pub KeepsKey : (StoreRecord → StoreRecord) → Type 0
+KeepsKey f = (r : StoreRecord) → (f r).key ≡ r.key

@@ -7,7 +7,7 @@ ghost use Rattle.std.specs.List.Sorted.{IsStrictlySortedBy};
 ghost use Rattle.std.specs.Ordering.{nat_cmp};
 ghost use Rattle.indexmap.specs.IndexSet.{IsUnique, contains, index_set_len, spare};
 ghost use Rattle.record_store.specs.ChangedFields.{set_of};
-ghost use Rattle.record_store.specs.ChangedSets.{HasRoomFor, count, has, keys_of, no_keys, room, union, with_key};
+ghost use Rattle.record_store.specs.ChangedSets.{HasRoomFor, count, has, keys_of, empty_set, room, union, with_member};
 
 #[cfg(test)]
 mod tests;
@@ -50,7 +50,7 @@ impl<A: Allocator + Copy> Changed<A> {
     /// No keys, and no room. It takes no memory.
     #[tactic(auto, using(crate::proofs::ChangedKeys::no_keys_rise))]
     pub fn new(alloc: A) -> Self
-        ensures { result ≡ record { collecting = no_keys; frozen = no_keys; places = 0 } }
+        ensures { result ≡ record { collecting = empty_set; frozen = empty_set; places = 0 } }
     {
         Changed {
             collecting: IndexSet::new(alloc),
@@ -64,7 +64,7 @@ impl<A: Allocator + Copy> Changed<A> {
 fn add_key<A: Allocator>(keys: &mut Keys<A>, key: Key)
     requires unique { IsUnique (pointwise nat_eq) keys.old }
     requires room { contains (pointwise nat_eq) keys.old key ≡ false → 0 < spare keys.old }
-    ensures added { set_of keys.new.keys ≡ with_key (set_of keys.old.keys) key }
+    ensures added { set_of keys.new.keys ≡ with_member (set_of keys.old.keys) key }
     ensures len { index_set_len keys.new ≡ index_set_len keys.old + (if contains (pointwise nat_eq) keys.old key then 0 else 1) }
     ensures room { index_set_len keys.old + spare keys.old ≤ index_set_len keys.new + spare keys.new }
     ensures unique { IsUnique (pointwise nat_eq) keys.new }
@@ -144,7 +144,7 @@ impl<A: Allocator> Changed<A> {
     /// Collects a key. It takes no memory.
     pub fn join(&mut self, key: Key)
         requires { HasRoomFor self.old key }
-        ensures { self.new ≡ record self.old { collecting = with_key self.old.collecting key } }
+        ensures { self.new ≡ record self.old { collecting = with_member self.old.collecting key } }
     {
         add_key(&mut self.collecting, key);
     }
@@ -152,7 +152,7 @@ impl<A: Allocator> Changed<A> {
     /// The collected keys become the frozen ones, in place of those that were, and no key is
     /// collected. It takes no memory.
     pub fn freeze(&mut self)
-        ensures { self.new ≡ record self.old { collecting = no_keys; frozen = self.old.collecting } }
+        ensures { self.new ≡ record self.old { collecting = empty_set; frozen = self.old.collecting } }
     {
         fill_in_order(&mut self.frozen, self.collecting.as_slice());
         // `clear` would go through all the room, and this goes through the keys.
@@ -162,7 +162,7 @@ impl<A: Allocator> Changed<A> {
     /// No key is frozen.
     #[tactic(auto, using(crate::proofs::ChangedKeys::no_keys_rise))]
     pub fn clear_frozen(&mut self)
-        ensures { self.new ≡ record self.old { frozen = no_keys } }
+        ensures { self.new ≡ record self.old { frozen = empty_set } }
     {
         self.frozen.clear();
     }
@@ -170,7 +170,7 @@ impl<A: Allocator> Changed<A> {
     /// The frozen keys are collected beside those that are, and no key is frozen. It takes no memory.
     pub fn rejoin(&mut self)
         requires { count self.old.frozen ≤ room self.old }
-        ensures { self.new ≡ record self.old { collecting = union self.old.collecting self.old.frozen; frozen = no_keys } }
+        ensures { self.new ≡ record self.old { collecting = union self.old.collecting self.old.frozen; frozen = empty_set } }
     {
         add_keys(&mut self.collecting, self.frozen.as_slice());
         self.clear_frozen();

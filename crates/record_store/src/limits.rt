@@ -1,4 +1,4 @@
 //! The limits of a store.
 
 /// Records of a store, dead ones counted.
-pub const RECORDS: usize = 100_000;
+pub const STORE_RECORDS: usize = 100_000;

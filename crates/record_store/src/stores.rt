@@ -8,12 +8,12 @@ ghost use Rattle.indexmap.specs.IndexMap.{spare, Updates as Notes};
 ghost use Rattle.record_store.specs.DeadKeys.{SameOffers};
 ghost use Rattle.record_store.specs.Entries.{lent_record, made};
 ghost use Rattle.record_store.specs.Fields.{mark_of};
-ghost use Rattle.record_store.specs.Stores.{Finds, IsLeastCandidate, IsOnce, at_rest, changed, key_at, live_at, new_record, reclaimed, record_at, records, stable_at, with_available, with_aside, with_copy, with_live, with_record, with_stable};
+ghost use Rattle.record_store.specs.Stores.{Finds, IsLeastCandidate, HasKeysOnce, record_at_rest, changed, key_at, live_at, new_record, reclaimed, record_at, records, stable_at, with_available, with_aside, with_copy, with_live, with_record, with_stable};
 ghost use Rattle.record_store.specs.declared.records.Stable.TheVariants.{Empty};
 ghost use Rattle.record_store.specs.declared.stores.CreateError.TheVariants.{TableFull};
 
 use crate::dead_keys::DeadKeys;
-use crate::limits::RECORDS;
+use crate::limits::STORE_RECORDS;
 use crate::records;
 use crate::records::{
     Entry, Record, Stable, clean_all, copy_of_live, dead_key, lent, remove, renew_offer,
@@ -114,7 +114,7 @@ impl<A: Allocator> Store<A> {
     /// How many records there are, dead ones counted.
     pub fn len(&self) -> usize
         ensures value { result ≡ records self.now }
-        ensures most { records self.now ≤ RECORDS }
+        ensures most { records self.now ≤ STORE_RECORDS }
     {
         self.slots.len()
     }
@@ -128,7 +128,7 @@ impl<A: Allocator> Store<A> {
     /// The slot of the key's record. No two slots have the same key.
     pub fn find(&self, key: &Key) -> Option<usize>
         ensures found { Finds self.now key.now result }
-        ensures once { IsOnce self.now }
+        ensures once { HasKeysOnce self.now }
     {
         self.index.get(key).copied()
     }
@@ -181,7 +181,7 @@ impl<A: Allocator> Store<A> {
     /// Every record becomes not available and without a stable version. It takes constant time, but
     /// for once in 2^64 - 1 calls.
     pub fn next_number(&mut self)
-        ensures { self.new ≡ map (option_map at_rest) self.old }
+        ensures { self.new ≡ map (option_map record_at_rest) self.old }
     {
         if self.number == u64::MAX {
             clean_all(&mut self.slots, self.used);
@@ -195,7 +195,7 @@ impl<A: Allocator> Store<A> {
     /// key.
     pub fn least_candidate(&self) -> Option<usize>
         ensures least { IsLeastCandidate self.now result }
-        ensures once { IsOnce self.now }
+        ensures once { HasKeysOnce self.now }
     {
         self.dead.least()
     }
@@ -297,9 +297,9 @@ impl<A: Allocator + Clone> Store<A> {
         ensures vacant { IfOk result (λ slot. record_at self.old slot ≡ None) }
         ensures ok { IfOk result (λ slot. self.new ≡ with_record self.old slot (new_record key available)) }
         ensures err { OnErr result (self.new ≡ self.old) }
-        ensures full { (result ≡ Err TableFull) ↔ (RECORDS ≤ records self.old) }
+        ensures full { (result ≡ Err TableFull) ↔ (STORE_RECORDS ≤ records self.old) }
     {
-        if self.slots.len() >= RECORDS {
+        if self.slots.len() >= STORE_RECORDS {
             return Err(CreateError::TableFull);
         }
         let slot = make_room(&mut self.slots, &mut self.index, &mut self.dead)?;

@@ -1,7 +1,7 @@
 //! Tests of what no clause says: that each call succeeds, the limit of records, which slot is used
 //! again, and how long many reclaims take.
 use super::*;
-use crate::limits::RECORDS;
+use crate::limits::STORE_RECORDS;
 use procedure::{Key, NoMemory, Value};
 use std::alloc::Global;
 use std::test::Fail;
@@ -173,11 +173,15 @@ fn candidates(rt: HostRuntime) -> Result<(), Fail> {
 
 #[test]
 fn table_full(rt: HostRuntime) -> Result<(), Fail> {
-    let mut store = dead_store(rt.alloc(), RECORDS as u32)?;
-    assert!(rt; is_full(&mut store, RECORDS as u32)?);
-    assert_eq!(rt; store.len(), RECORDS);
+    let mut store = dead_store(rt.alloc(), STORE_RECORDS as u32)?;
+    assert!(rt; is_full(&mut store, STORE_RECORDS as u32)?);
+    assert_eq!(rt; store.len(), STORE_RECORDS);
     store.reclaim(5);
-    assert_eq!(rt; made(&mut store, RECORDS as u32)?, 5, "the vacant slot");
+    assert_eq!(rt;
+        made(&mut store, STORE_RECORDS as u32)?,
+        5,
+        "the vacant slot"
+    );
     Ok(())
 }
 
@@ -185,7 +189,7 @@ fn table_full(rt: HostRuntime) -> Result<(), Fail> {
 fn reclaim_upper(store: &mut Cells) -> (u32, u32) {
     let mut gone = 0u32;
     let mut aside = 0u32;
-    for _ in 0..RECORDS {
+    for _ in 0..STORE_RECORDS {
         let Some(slot) = store.least_candidate() else {
             break;
         };
@@ -204,7 +208,7 @@ fn reclaim_upper(store: &mut Cells) -> (u32, u32) {
 /// go, and then these.
 #[test]
 fn many_reclaims(rt: HostRuntime) -> Result<(), Fail> {
-    let mut store = dead_store(rt.alloc(), RECORDS as u32)?;
+    let mut store = dead_store(rt.alloc(), STORE_RECORDS as u32)?;
     assert_eq!(rt; reclaim_upper(&mut store), (HALF, HALF));
     for slot in 0..HALF as usize {
         store.reconsider(slot);
@@ -213,7 +217,7 @@ fn many_reclaims(rt: HostRuntime) -> Result<(), Fail> {
         let slot = store.least_candidate().ok_or("a candidate is left")?;
         store.reclaim(slot);
     }
-    assert!(rt; store.is_empty() && store.slots() == RECORDS);
+    assert!(rt; store.is_empty() && store.slots() == STORE_RECORDS);
     Ok(())
 }
 

@@ -16,7 +16,7 @@ use Rattle.commitlog.proofs.Histories.{after-append}
 use Rattle.commitlog.proofs.Lists.{take_and_range}
 use Rattle.commitlog.proofs.Finished.{base_is_before}
 use Rattle.image.specs.Images.{Image, changes_of}
-use Rattle.image.specs.Merges.{StandOn, IsChain, last_of, table_of}
+use Rattle.image.specs.Merges.{AreChained, IsChain, last_of, table_of}
 use Rattle.image.specs.Merges as merges
 use Rattle.image.specs.declared.images.Kind.{Kind}
 use Rattle.image.specs.declared.images.Kind.TheVariants.{Full, Partial}
@@ -91,8 +91,8 @@ module _ (c : List Procedure) (t : Table) (l : List Record) (cyclic : IsCyclic l
       by q true e = refl
       by q false e = sym (unwritten_between c t l (cut l i.base) (cut l i.number) q before e)
 
-  partials_are_cuts : (u : Table) (i : Image) (ps : List Image) → u ≡ at_cut c t l i.number → StandOn i.number ps → AllByRecursion (IsImageOf c t l) ps →
-      merges.table_after u ps ≡ at_cut c t l (last_of i ps).number
+  partials_are_cuts : (u : Table) (i : Image) (ps : List Image) → u ≡ at_cut c t l i.number → AreChained i.number ps → AllByRecursion (IsImageOf c t l) ps →
+      merges.table_with_images u ps ≡ at_cut c t l (last_of i ps).number
   partials_are_cuts u i [] e stand images = e
   partials_are_cuts u i (p ∷ ps) e stand images =
       let partial = subst (λ (k : Kind). IsOfKind k c t l (data_of p)) stand.0 images.0.image in
@@ -101,7 +101,7 @@ module _ (c : List Procedure) (t : Table) (l : List Record) (cyclic : IsCyclic l
       partials_are_cuts (merged u (changes_of p)) p ps next stand.2 images.1
 
   pub chain_is_cut : (full : Image) (ps : List Image) → IsChain full ps → AllByRecursion (IsImageOf c t l) (full ∷ ps) →
-      merges.table_after (table_of full) ps ≡ at_cut c t l (last_of full ps).number
+      merges.table_with_images (table_of full) ps ≡ at_cut c t l (last_of full ps).number
   chain_is_cut full ps chain images =
       partials_are_cuts (table_of full) full ps (full_is_cut full (subst (λ (k : Kind). IsOfKind k c t l (data_of full)) chain.full_first images.0.image)) chain.partials images.1
 

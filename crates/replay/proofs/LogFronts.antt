@@ -12,7 +12,7 @@ use Rattle.commitlog.specs.declared.formats.Version.TheVariants.{One, Two}
 use Rattle.commitlog.specs.declared.formats.LogHeader.{LogHeader}
 use Rattle.commitlog.specs.declared.decoding.Ending.{Ending}
 use Rattle.commitlog.specs.declared.decoding.Ending.TheVariants.{Clean, Torn}
-use Rattle.commitlog.specs.LogBytes.{Fits, body, first_digest, greatest_body, header_bytes, magic, next_digest, record_bytes, records_bytes}
+use Rattle.commitlog.specs.LogBytes.{Fits, body, first_digest, greatest_body, log_header_bytes, magic, next_digest, record_bytes, records_bytes}
 use Rattle.commitlog.specs.LogReadings.{Begins, Ends, IsHeader, stated_length}
 use Rattle.commitlog.proofs.BodyLaws.{body_bound}
 use Rattle.commitlog.proofs.OneReadings.{same_front}
@@ -89,7 +89,8 @@ front_of v d (r ∷ rs) x y fits e =
           others = f.others;
           parts = ap (λ (l : List Record). r ∷ l) f.parts;
           rest = f.rest;
-          text = sym (take-append-drop n x) ∙ ap (λ (b : Bytes). b ++ left) (sym same.0) ∙ ap (λ (b : Bytes). record_bytes d r ++ b) f.text ∙ sym (append_assoc (record_bytes d r) (records_bytes (next_digest d r) f.whole) f.rest);
+          text = sym (take-append-drop n x) ∙ ap (λ (b : Bytes). b ++ left) (sym same.0) ∙ ap (λ (b : Bytes). record_bytes d r ++ b) f.text ∙
+              sym (append_assoc (record_bytes d r) (records_bytes (next_digest d r) f.whole) f.rest);
           ending = f.ending;
           ends = f.ends;
         }
@@ -98,7 +99,7 @@ letters_length : (v : Version) → length (magic v) ≡ 8
 letters_length One = refl
 letters_length Two = refl
 
-header_length : (v : Version) (h : LogHeader) → IsHeader h → length (header_bytes v h) ≡ 72
+header_length : (v : Version) (h : LogHeader) → IsHeader h → length (log_header_bytes v h) ≡ 72
 header_length v h lengths =
     omega (arith, length-append (magic v) (h.catalog ++ h.opening), length-append h.catalog h.opening, letters_length v, lengths.catalog, lengths.opening)
 
@@ -108,7 +109,7 @@ all_front P (x ∷ xs) ys a = (a.0, all_front P xs ys a.1)
 
 pub fronts_are_read : FrontsAreRead
 fronts_are_read v h l text f =
-    let header = header_bytes v h in
+    let header = log_header_bytes v h in
     let d = first_digest v h in
     let n = length header in
     let len : n ≡ 72 = header_length v h f.header in

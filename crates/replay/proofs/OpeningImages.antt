@@ -11,7 +11,7 @@ use Rattle.procedure.specs.Bytes.{Bytes, Cell}
 use Rattle.procedure.specs.Table.{Table, change_at, changed_or, no_table, value_at}
 use Rattle.procedure.proofs.Base.{same_table, value_at-merged, value_at-no_table}
 use Rattle.commitlog.specs.Cuts.{in_full}
-use Rattle.image.specs.Images.{Entry, Image, IsLawful, SuitsKind, changes_of, entries_of, full_image}
+use Rattle.image.specs.Images.{Entry, Image, IsLawfulImage, SuitsKind, changes_of, entries_of, full_image}
 use Rattle.image.specs.Joins.{present}
 use Rattle.image.specs.Merges.{is_full, table_of}
 use Rattle.image.specs.Openings.{is_opening}
@@ -50,7 +50,7 @@ all_present : (es : List Entry) → AllByRecursion (λ (e : Entry). IsSome e.1) 
 all_present [] a = refl
 all_present (e ∷ es) a = ap (λ b. cond b (e ∷ present es) (present es)) a.0 ∙ ap (λ xs. e ∷ xs) (all_present es a.1)
 
-entries_are : (i : Image) → IsLawful i → i.kind ≡ Full → i.entries ≡ entries_of (table_of i)
+entries_are : (i : Image) → IsLawfulImage i → i.kind ≡ Full → i.entries ≡ entries_of (table_of i)
 entries_are i h full =
     let suits : SuitsKind Full i.number i.base i.entries = subst (λ (k : Kind). SuitsKind k i.number i.base i.entries) full h.kind in
     sym (all_present i.entries (recursion_from_All (λ (e : Entry). IsSome e.1) i.entries suits.1)) ∙ present_of_image i h
@@ -82,7 +82,7 @@ parts_of i e =
     both true y e = (refl, e)
     both false y e = absurd (true≢false (sym e))
 
-pub opening_is : (i : Image) → is_opening i ≡ true → IsLawful i → i ≡ full_image 0 0 (table_of i)
+pub opening_is : (i : Image) → is_opening i ≡ true → IsLawfulImage i → i ≡ full_image 0 0 (table_of i)
 opening_is i opens h =
     let o = parts_of i opens in
     λ j. record { kind = o.kind j; number = o.number j; base = o.base j; place = o.place j; entries = entries_are i h o.kind j }

@@ -20,8 +20,8 @@ use Rattle.commitlog.specs.declared.decoding.Ending.{Ending}
 use Rattle.commitlog.proofs.Histories.{after-append, after-push, each-front}
 use Rattle.commitlog.proofs.Lists.{slice_get-seam}
 use Rattle.commitlog.proofs.Cuts.{cut-front, found_in_front, split_at}
-use Rattle.image.specs.Images.{Image, IsLawful, changes_of, full_image}
-use Rattle.image.specs.Merges.{IsChain, Refusal, StandOn, chain_refusal, is_full, is_partial, last_of, links_refusal, merged_image, refusal_of, table_of, unless}
+use Rattle.image.specs.Images.{Image, IsLawfulImage, changes_of, full_image}
+use Rattle.image.specs.Merges.{IsChain, Refusal, AreChained, chain_refusal, is_full, is_partial, last_of, links_refusal, merged_image, refusal_of, table_of, unless}
 use Rattle.image.specs.Merges as merges
 use Rattle.image.specs.Openings.{is_opening}
 use Rattle.image.specs.declared.images.Kind.{Kind}
@@ -85,20 +85,20 @@ none_then : (x y : Refusal) → x ≡ None → y ≡ None → option_or x y ≡ 
 none_then None y h k = k
 none_then (Some e) y h k = absurd (cc)
 
-links_stand : (i n : ℕ) (ps : List Image) → StandOn n ps → links_refusal i n ps ≡ None
+links_stand : (i n : ℕ) (ps : List Image) → AreChained n ps → links_refusal i n ps ≡ None
 links_stand i n [] stand = refl
 links_stand i n (p ∷ ps) stand =
     none_then (unless (is_partial p.kind) (NotPartial i)) _ (none_if (is_partial p.kind) (NotPartial i) (ap is_partial stand.0))
     (none_then (unless (p.base == n) (Gap i)) _ (none_if (p.base == n) (Gap i) (eq-eqb p.base n stand.1)) (links_stand (i + 1) p.number ps stand.2))
 
-module _ (full : Image) (ps : List Image) (chain : IsChain full ps) (images : length ps < IMAGES) (few : finite.len (merges.table_after (table_of full) ps) ≤ ENTRIES) where
+module _ (full : Image) (ps : List Image) (chain : IsChain full ps) (images : length ps < IMAGES) (few : finite.len (merges.table_with_images (table_of full) ps) ≤ ENTRIES) where
   links : chain_refusal full ps ≡ None
   links =
       none_then (unless (nat_lt (length ps) IMAGES) TooMany) _ (none_if (nat_lt (length ps) IMAGES) TooMany (le-leb (suc (length ps)) IMAGES images))
       (none_then (unless (is_full full.kind) NotFull) _ (none_if (is_full full.kind) NotFull (ap is_full chain.full_first)) (links_stand 0 full.number ps chain.partials))
 
   pub not_refused : refusal_of full ps ≡ None
-  not_refused = none_then (chain_refusal full ps) _ links (none_if (nat_le (finite.len (merges.table_after (table_of full) ps)) ENTRIES) TooMany (le-leb _ ENTRIES few))
+  not_refused = none_then (chain_refusal full ps) _ links (none_if (nat_le (finite.len (merges.table_with_images (table_of full) ps)) ENTRIES) TooMany (le-leb _ ENTRIES few))
 
 -- ---- where the last image ends
 
@@ -141,16 +141,16 @@ module _ (c : List Procedure) (opening : Image) (v : Version) (h : LogHeader) (m
   within = (cut-front m left (last_of full ps).number holds).1
 
   -- the table of the images is that at the cut
-  at_last : merges.table_after (table_of full) ps ≡ after c t (take k m)
+  at_last : merges.table_with_images (table_of full) ps ≡ after c t (take k m)
   at_last =
       chain_is_cut c (table_of opening) (m ++ left) is.cyclic full ps chain.chain chain.images
       ∙ ap (λ j. after c (table_of opening) (take j (m ++ left))) (cut-front m left (last_of full ps).number holds).0
       ∙ ap (after c (table_of opening)) (take-append-le (cut m (last_of full ps).number) m left (cut-front m left (last_of full ps).number holds).1)
 
   table_is : table_of merged ≡ after c t (take k m)
-  table_is = table_of-full (last_of full ps).number (last_of full ps).place (merges.table_after (table_of full) ps) ∙ at_last
+  table_is = table_of-full (last_of full ps).number (last_of full ps).place (merges.table_with_images (table_of full) ps) ∙ at_last
 
-  few : finite.len (merges.table_after (table_of full) ps) ≤ ENTRIES
+  few : finite.len (merges.table_with_images (table_of full) ps) ≤ ENTRIES
   few =
       subst (λ (u : Table). finite.len u ≤ ENTRIES)
       (sym (chain_is_cut c (table_of opening) (m ++ left) is.cyclic full ps chain.chain chain.images))
@@ -163,7 +163,7 @@ module _ (c : List Procedure) (opening : Image) (v : Version) (h : LogHeader) (m
   begins : (last_of full ps).number ≡ 0 → BeginsLog v h merged
   begins zero_is =
       let first : (last_of full ps).place ≡ 0 = unfolded_place ∙ ap (cut m) zero_is in
-      let table : merges.table_after (table_of full) ps ≡ table_of opening = at_last ∙ ap (λ j. after c (table_of opening) (take (cut m j) m)) zero_is ∙ after_none c (table_of opening) in
+      let table : merges.table_with_images (table_of full) ps ≡ table_of opening = at_last ∙ ap (λ j. after c (table_of opening) (take (cut m j) m)) zero_is ∙ after_none c (table_of opening) in
       let same : merged_image full ps ≡ opening = (λ i. full_image (zero_is i) (first i) (table i)) ∙ sym (opening_is opening is.opens is.lawful) in
       (first, subst (NamesOpening v h) (sym same) is.named)
 
@@ -219,7 +219,7 @@ from_images c is text x answer opening v h m left e full ps history read images 
     recovers c opening v h m left e full ps history chain holds text x read (subst (λ (js : List Image). IsRecovery c js text x ⊎ (x ≡ Err refused.NoMemory)) images answer)
 
 -- the opening is an image of its log
-module _ (c : List Procedure) (opening : Image) (opens : is_opening opening ≡ true) (lawful : IsLawful opening) (l : List Record) where
+module _ (c : List Procedure) (opening : Image) (opens : is_opening opening ≡ true) (lawful : IsLawfulImage opening) (l : List Record) where
   zeros : Opening opening
   zeros = parts_of opening opens
 
@@ -246,5 +246,6 @@ from_opening c is text x answer opening v h l history front images =
     let read = fronts_are_read v h l text front in
     let m = read.0 in
     let of_parts : IsHistory c opening v h (m ++ read.1) = subst (IsHistory c opening v h) read.2 history in
-    let told = from_images c is text x answer opening v h m read.1 read.3 opening [] of_parts read.4 images (opening_chain c opening history.opens history.lawful (m ++ read.1)) (inl (parts_of opening history.opens).number) in
+    let told = from_images c is text x answer opening v h m read.1 read.3 opening [] of_parts read.4 images (opening_chain c opening history.opens history.lawful (m ++ read.1))
+    (inl (parts_of opening history.opens).number) in
     (m, read.1, read.2, read.3, read.4, subst (λ p. Recovers c opening p m read.3 x) (parts_of opening history.opens).place told)

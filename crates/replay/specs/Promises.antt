@@ -15,9 +15,9 @@ use Rattle.commitlog.specs.LogReadings.{Log, IsHeader, IsReading}
 use Rattle.commitlog.specs.declared.formats.Version.{Version}
 use Rattle.commitlog.specs.declared.formats.LogHeader.{LogHeader}
 use Rattle.commitlog.specs.declared.decoding.Ending.{Ending}
-use Rattle.commitlog.specs.declared.limits.TheConstants.{RECORDS, HEADER_BYTES}
+use Rattle.commitlog.specs.declared.limits.TheConstants.{LOG_RECORDS, HEADER_BYTES}
 use Rattle.image.specs.Openings.{is_opening}
-use Rattle.image.specs.Images.{Image, IsLawful, changes_of}
+use Rattle.image.specs.Images.{Image, IsLawfulImage, changes_of}
 use Rattle.image.specs.Merges.{IsChain, last_of, table_of}
 use Rattle.image.specs.declared.images.Kind.{Kind}
 use Rattle.image.specs.declared.images.Kind.TheVariants.{Full, Partial}
@@ -35,7 +35,7 @@ use Rattle.replay.specs.declared.errors.RecoverError.TheVariants as refused
 pub record IsFrontOf (v : Version) (h : LogHeader) (l : List Record) (text : Bytes) : Type 0 where
   pub header : IsHeader h
   pub records : AllByRecursion (Fits v) l
-  pub count : length l ≤ RECORDS
+  pub count : length l ≤ LOG_RECORDS
   pub long : HEADER_BYTES ≤ length text
   pub behind : Bytes
   pub bytes : log_bytes v h l ≡ text ++ behind
@@ -51,7 +51,7 @@ FrontsAreRead = (v : Version) (h : LogHeader) (l : List Record) (text : Bytes) �
 -- in their cycle
 pub record IsHistory (c : List Procedure) (opening : Image) (v : Version) (h : LogHeader) (l : List Record) : Type 0 where
   pub opens : is_opening opening ≡ true
-  pub lawful : IsLawful opening
+  pub lawful : IsLawfulImage opening
   pub catalog : NamesCatalog h c
   pub named : NamesOpening v h opening
   pub legal : IsLegal c (table_of opening) l
@@ -59,10 +59,10 @@ pub record IsHistory (c : List Procedure) (opening : Image) (v : Version) (h : L
   pub few : (j : ℕ) → finite.len (after c (table_of opening) (take j l)) ≤ ENTRIES
 
 -- an image without its kind, as the log speaks of it
-abbrev pub data_of : Image → cuts.Image
+abbrev pub data_of : Image → cuts.CutImage
 data_of i = record { number = i.number; base = i.base; place = i.place; entries = changes_of i }
 
-abbrev pub IsOfKind : Kind → List Procedure → Table → List Record → cuts.Image → Type 0
+abbrev pub IsOfKind : Kind → List Procedure → Table → List Record → cuts.CutImage → Type 0
 IsOfKind Full c t l i = IsFullImage c t l i
 IsOfKind Partial c t l i = IsPartialImage c t l i
 

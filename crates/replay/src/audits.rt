@@ -2,7 +2,7 @@
 
 ghost use Rattle.std.specs.Prelude.{◌≡◌, ◌≤◌, ◌⊎◌, ◌↔◌, Err, IfErr, IfOk, IsTrue, OnOk, length};
 ghost use Rattle.std.specs.declared.result.Result.{Result};
-ghost use Rattle.commitlog.specs.declared.limits.TheConstants.{RECORDS};
+ghost use Rattle.commitlog.specs.declared.limits.TheConstants.{LOG_RECORDS};
 ghost use Rattle.replay.specs.Parts.{AreAudited, audited_at};
 ghost use Rattle.replay.specs.Audits.{IsAudit, NamesBoth, OfLog};
 ghost use Rattle.replay.specs.Promises.{FrontsPass, IsOneHistory};
@@ -69,7 +69,7 @@ fn audit_records<A: Allocator + Clone>(
     records: Vec<Record<A>, A>,
     torn: bool,
 ) -> Result<Audited, AuditError>
-    requires { length records.items ≤ RECORDS }
+    requires { length records.items ≤ LOG_RECORDS }
     ensures { AreAudited catalog.now table records.items torn result }
 {
     let mut table = table;
@@ -104,7 +104,7 @@ fn audit_log<A: Allocator + Clone>(
     opening: &Image<A>,
     log: StoredLog<A>,
 ) -> Result<Audited, AuditError>
-    requires { length log.records ≤ RECORDS }
+    requires { length log.records ≤ LOG_RECORDS }
     ensures { OfLog catalog.now opening.now log.version log.header log.records log.ending result ⊎ (result ≡ Err refused.NoMemory) }
 {
     check_header(alloc.clone()?, catalog, opening, &log)?;

@@ -4,7 +4,7 @@ ghost use Rattle.std.specs.Prelude.{◌≡◌, ◌≤◌, ◌⊎◌, ◌↔◌, 
 ghost use Rattle.std.specs.declared.result.Result.{Result};
 ghost use Rattle.phase.specs.declared.phases.Phase.TheVariants.{Resolve};
 ghost use Rattle.commitlog.specs.Records.{Token, record_of};
-ghost use Rattle.commitlog.specs.declared.limits.TheConstants.{RECORDS};
+ghost use Rattle.commitlog.specs.declared.limits.TheConstants.{LOG_RECORDS};
 ghost use Rattle.commitlog.specs.LogReadings.{IsReading, reading_of};
 ghost use Rattle.image.specs.Merges.{table_of};
 ghost use Rattle.replay.specs.Parts.{Chained, RunAgain, at_place};
@@ -135,7 +135,7 @@ fn run_again<A: Allocator + Clone>(
     records: Vec<Record<A>, A>,
     torn: bool,
 ) -> Result<Recovered<A>, RecoverError>
-    requires { length records.items ≤ RECORDS }
+    requires { length records.items ≤ LOG_RECORDS }
     ensures { RunAgain catalog.now table from records.items torn result }
 {
     let mut table = table;
@@ -177,7 +177,7 @@ fn recover_log<A: Allocator + Clone>(
     image: Image<A>,
     log: StoredLog<A>,
 ) -> Result<Recovered<A>, RecoverError>
-    requires { length log.records ≤ RECORDS }
+    requires { length log.records ≤ LOG_RECORDS }
     ensures { OfLog catalog.now image log.version log.header log.records log.ending result ⊎ (result ≡ Err refused.NoMemory) }
 {
     check_start(alloc.clone()?, catalog, &image, &log)?;

@@ -328,7 +328,7 @@ pub(crate) fn log_of(
     header: &LogHeader,
     records: &[Record<Global>],
 ) -> Result<Sequence<u8, Global>, Fail> {
-    if records.len() > commitlog::limits::RECORDS {
+    if records.len() > commitlog::limits::LOG_RECORDS {
         return Err("too many".into());
     }
     Ok(encode(alloc, header, records)?)

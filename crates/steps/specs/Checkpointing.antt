@@ -1,9 +1,7 @@
 -- What the calls that make a checkpoint do to a core.
-use Rattle.std.specs.Prelude.{◌≡◌, ◌<◌, ℕ, suc, cond, [], ◌∷◌, ◌++◌, length, map, slice_get, Option, Some, None, Ok, Err}
-use Rattle.std.specs.declared.result.Result.{Result}
+use Rattle.std.specs.Prelude.{◌≡◌, ◌<◌, ℕ, suc, cond, [], ◌∷◌, ◌++◌, length, map, slice_get, Option, Some, None}
 use Rattle.std.specs.Option.{option_map}
 use Rattle.procedure.specs.Bytes.{Bytes, same}
-use Rattle.procedure.specs.declared.memory.NoMemory.{NoMemory}
 use Rattle.phase.specs.declared.phases.Phase.{Phase}
 use Rattle.phase.specs.declared.phases.Phase.TheVariants.{Rest, Prepare, Resolve, Capture, Complete}
 use Rattle.commitlog.specs.Cuts.{cut, finished_below, written}
@@ -14,13 +12,10 @@ use Rattle.image.specs.Merges.{table_of}
 use Rattle.image.specs.declared.images.Kind.{Kind}
 use Rattle.image.specs.declared.images.Kind.TheVariants.{Full, Partial}
 use Rattle.record_store.specs.ChangedSets.{KeySet, count, has, keys_of}
-use Rattle.record_store.specs.Stores.{at_rest, key_at}
+use Rattle.record_store.specs.Stores.{record_at_rest, key_at}
 use Rattle.steps.specs.CoreViews.{CoreView, Underway}
 use Rattle.steps.specs.CutImages.{IsCutOf}
-use Rattle.steps.specs.Edits.{given_of, kept_of, versions_in}
-use Rattle.steps.specs.World.{Version, captured_at}
-use Rattle.steps.specs.declared.errors.AdvanceError.{AdvanceError}
-use Rattle.steps.specs.declared.errors.AdvanceError.TheVariants as advancing
+use Rattle.steps.specs.Versions.{given_of, kept_of, versions_in, KeyVersions, captured_at}
 use Rattle.steps.specs.declared.captures.Captured.{Captured}
 use Rattle.steps.specs.declared.captures.Captured.TheVariants.{Slot, Done}
 
@@ -39,8 +34,8 @@ abbrev pub started : CoreView → Kind → CoreView
 started v kind = record (with_token v Prepare (suc (number_of v.log))) { checkpoint = record v.checkpoint { kind = kind } }
 
 -- every record is not available, and has no stable version
-abbrev pub rested : CoreView → CoreView
-rested v = record v { slots = map (option_map at_rest) v.slots }
+abbrev pub rested_core : CoreView → CoreView
+rested_core v = record v { slots = map (option_map record_at_rest) v.slots }
 
 -- THE SCAN
 
@@ -62,7 +57,7 @@ VisitsNext Partial v key = (s : KeySet) × IsFrozen v s × (key ≡ slice_get (k
 
 -- the versions of a key, after a scan visited its record: the stable version is taken where the record is available, and the
 -- record is available
-abbrev pub visited : Option Bytes → Bytes → Option Version → Option Version
+abbrev pub visited : Option Bytes → Bytes → Option KeyVersions → Option KeyVersions
 visited None q v = v
 visited (Some key) q v = cond (same q key) (option_map (λ v. captured_at v.available v) v) v
 
@@ -71,7 +66,14 @@ pub record Visits (old new : CoreView) : Type 0 where
   pub key : Option Bytes
   pub next : VisitsNext old.checkpoint.kind old key
   pub below : old.checkpoint.cursor < old.checkpoint.bound
-  pub rest : new ≡ record old { slots = new.slots; checkpoint = record old.checkpoint { cursor = suc old.checkpoint.cursor; captured = old.checkpoint.captured ++ kept_of old.checkpoint.kind (given_of (versions_in old.slots) key) } }
+  pub rest : new ≡ record old {
+    slots = new.slots;
+    checkpoint = record old.checkpoint {
+      cursor = suc old.checkpoint.cursor;
+      captured =
+          old.checkpoint.captured ++ kept_of old.checkpoint.kind (given_of (versions_in old.slots) key);
+    };
+  }
   pub slots : (slot : ℕ) → key_at new.slots slot ≡ key_at old.slots slot
   pub versions : (q : Bytes) → versions_in new.slots q ≡ visited key q (versions_in old.slots q)
 
@@ -95,12 +97,7 @@ AdvancesTo Capture old new =
     (b : ℕ) × EndsAt old.checkpoint.kind old b × (new ≡ record (entered old Capture) { checkpoint = record old.checkpoint { cursor = 0; bound = b; captured = [] } })
 AdvancesTo Complete old new =
     (i : Image) × IsImageOf old i × (new ≡ record (entered old Complete) { checkpoint = record old.checkpoint { captured = []; waiting = Some i } })
-AdvancesTo Rest old new = new ≡ rested (entered old Rest)
-
--- how such a change is answered
-abbrev pub answered : Result (Unit {0}) NoMemory → Phase → Result Phase AdvanceError
-answered (Ok x) p = Ok p
-answered (Err e) p = Err advancing.NoMemory
+AdvancesTo Rest old new = new ≡ rested_core (entered old Rest)
 
 -- the image was taken
 abbrev pub taken : CoreView → CoreView
@@ -112,4 +109,4 @@ restarted c = record c { start = Rest }
 
 -- the checkpoint is given up: nothing of it is left
 abbrev pub abandoned : CoreView → CoreView
-abandoned v = record (rested (entered v Rest)) { calls = map (option_map restarted) v.calls; checkpoint = record v.checkpoint { captured = []; waiting = None } }
+abandoned v = record (rested_core (entered v Rest)) { calls = map (option_map restarted) v.calls; checkpoint = record v.checkpoint { captured = []; waiting = None } }

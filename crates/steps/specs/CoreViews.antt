@@ -14,10 +14,8 @@ use Rattle.image.specs.Images.{Image}
 use Rattle.image.specs.declared.images.Kind.{Kind}
 use Rattle.image.specs.Merges.{table_of}
 use Rattle.record_store.specs.Stores.{Slots}
-use Rattle.record_store.specs.declared.limits.TheConstants.{RECORDS}
-use Rattle.steps.specs.Edits.{versions_in}
-use Rattle.steps.specs.Good.{undo_of}
-use Rattle.steps.specs.World.{Version, found, kept_key, undone_key, wrote_key}
+use Rattle.record_store.specs.declared.limits.TheConstants.{STORE_RECORDS}
+use Rattle.steps.specs.Versions.{versions_in, undo_of, KeyVersions, found, kept_key, undone_key, wrote_key}
 use Rattle.steps.specs.declared.step.Stepped.{Stepped}
 use Rattle.steps.specs.declared.step.Stepped.TheVariants.{Ran, Ready}
 
@@ -48,7 +46,7 @@ pub record CoreView : Type 0 where
 
 -- at most 100,000 keys after every front of a log
 abbrev pub IsSmall : List Procedure → Table → List Record → Type 0
-IsSmall c t l = (k : ℕ) → fin.len (after c t (take k l)) ≤ RECORDS
+IsSmall c t l = (k : ℕ) → fin.len (after c t (take k l)) ≤ STORE_RECORDS
 
 -- a session's open call, if there is one
 abbrev pub open_at : CoreView → ℕ → Option Underway
@@ -133,7 +131,7 @@ abbrev pub answer_of : CoreView → ℕ → Underway → Record
 answer_of v s c = Call s c.number c.procedure c.args (front_of v c).outcome (front_of v c).replies
 
 -- the versions after a call's end: its writes are kept where it commits, and else the keys hold what they held before it
-abbrev pub settled : CoreView → Underway → Bytes → Option Version
+abbrev pub settled : CoreView → Underway → Bytes → Option KeyVersions
 settled v c q =
     if (front_of v c).outcome == COMMITTED
     then kept_key c.start (phase_of v.log) (replaced v c q) (versions_in v.slots q)
@@ -147,5 +145,11 @@ pub record Finishes (old new : CoreView) (s : ℕ) (c : Underway) : Type 0 where
   pub versions : (q : Bytes) → versions_in new.slots q ≡ settled old c q
 
 -- the answer gives the place of that record, and what it says
-abbrev pub IsAnswer : CoreView → Underway → (place outcome : ℕ) → (replies : List Cell) → Type 0
-IsAnswer v c place outcome replies = (place ≡ length v.log) × (outcome ≡ (front_of v c).outcome) × (replies ≡ (front_of v c).replies)
+abbrev pub AnswersCall : CoreView → Underway → (place outcome : ℕ) → (replies : List Cell) → Type 0
+AnswersCall v c place outcome replies = (place ≡ length v.log) × (outcome ≡ (front_of v c).outcome) × (replies ≡ (front_of v c).replies)
+
+-- what a begin opened a call with
+pub record Begun : Type 0 where
+  pub number : ℕ
+  pub procedure : ℕ
+  pub args : List Bytes

@@ -7,15 +7,15 @@ use Rattle.commitlog.specs.Records.{Record}
 use Rattle.commitlog.specs.Cuts as cuts
 use Rattle.commitlog.specs.Cuts.{HasCut, IsFullImage, IsPartialImage, at_cut}
 use Rattle.image.specs.Images.{Image, changes_of}
-use Rattle.image.specs.Merges.{IsChain, StandOn, last_of, table_after, table_of}
+use Rattle.image.specs.Merges.{IsChain, AreChained, last_of, table_with_images, table_of}
 use Rattle.image.specs.declared.images.Kind.{Kind}
 use Rattle.image.specs.declared.images.Kind.TheVariants.{Full, Partial}
 
 -- an image without its kind, as the log speaks of it
-abbrev pub plain : Image → cuts.Image
+abbrev pub plain : Image → cuts.CutImage
 plain i = record { number = i.number; base = i.base; place = i.place; entries = changes_of i }
 
-abbrev pub IsOfKind : Kind → List Procedure → Table → List Record → cuts.Image → Type 0
+abbrev pub IsOfKind : Kind → List Procedure → Table → List Record → cuts.CutImage → Type 0
 IsOfKind Full c t l i = IsFullImage c t l i
 IsOfKind Partial c t l i = IsPartialImage c t l i
 
@@ -39,7 +39,7 @@ number_of_last n (p ∷ ps) = number_of_last p.number ps
 -- each chain of some of the images merges to the table at the last one's cut, from the opening on, which counts as the
 -- full image of checkpoint 0, or from a full image
 pub record ChainsAreCuts (c : List Procedure) (t : Table) (l : List Record) (is : List Image) : Type 0 where
-  pub opening_chain : (ps : List Image) → All (Contains is) ps → StandOn 0 ps → table_after t ps ≡ at_cut c t l (number_of_last 0 ps)
+  pub opening_chain : (ps : List Image) → All (Contains is) ps → AreChained 0 ps → table_with_images t ps ≡ at_cut c t l (number_of_last 0 ps)
   pub chain :
       (i : Image) (ps : List Image) → Contains is i → All (Contains is) ps → IsChain i ps →
-      table_after (table_of i) ps ≡ at_cut c t l (last_of i ps).number
+      table_with_images (table_of i) ps ≡ at_cut c t l (last_of i ps).number

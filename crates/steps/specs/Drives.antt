@@ -1,7 +1,7 @@
 -- What a driven schedule makes of a core.
 use Rattle.std.specs.Prelude.{◌≡◌, ℕ, List, [], ◌∷◌, slice_get, Some}
 use Rattle.procedure.specs.Procedures.{Procedure}
-use Rattle.commitlog.specs.Records.{Record}
+use Rattle.commitlog.specs.Records.{Record, Token, Call}
 use Rattle.image.specs.Images.{Image}
 use Rattle.steps.specs.CoreViews.{CoreView}
 use Rattle.steps.specs.Openings.{IsOpened}
@@ -19,3 +19,9 @@ pub record IsDriven {A : Type 0} (c : List Procedure) (i : Image) (events : List
 abbrev pub EachStands : List Record → List (ℕ × Record) → Type 0
 EachStands log [] = Unit {0}
 EachStands log ((place, r) ∷ l) = (slice_get log place ≡ Some r) × EachStands log l
+
+-- the calls of a history
+abbrev pub calls_of : List Record → List Record
+calls_of [] = []
+calls_of (Token p n ∷ h) = calls_of h
+calls_of (Call s n p args o r ∷ h) = Call s n p args o r ∷ calls_of h

@@ -1,25 +1,14 @@
 -- What a core holds when it was opened.
-use Rattle.std.specs.Prelude.{◌≡◌, cond, List, [], ◌∷◌, replicate, Some, None}
-use Rattle.procedure.specs.Bytes.{Bytes, same}
+use Rattle.std.specs.Prelude.{◌≡◌, List, [], replicate, None}
+use Rattle.procedure.specs.Bytes.{Bytes}
 use Rattle.procedure.specs.Procedures.{Procedure}
 use Rattle.procedure.specs.Table.{value_at}
 use Rattle.procedure.specs.declared.limits.TheConstants.{SESSIONS}
-use Rattle.phase.specs.declared.phases.Phase.TheVariants.{Rest}
-use Rattle.image.specs.Images.{Entry, Image}
+use Rattle.image.specs.Images.{Image}
 use Rattle.image.specs.declared.images.Kind.TheVariants.{Full}
 use Rattle.image.specs.Merges.{table_of}
 use Rattle.steps.specs.CoreViews.{CheckpointView, CoreView}
-use Rattle.steps.specs.Edits.{versions_in}
-use Rattle.steps.specs.World.{Versions, opened, wrote}
-
--- the versions with one entry more
-abbrev pub with_opened : Versions → Entry → Versions
-with_opened vs e q = cond (same q e.0) (Some (wrote Rest Rest (vs e.0) e.1)) (vs q)
-
--- the versions with these entries, one after another
-abbrev pub opened_with : Versions → List Entry → Versions
-opened_with vs [] = vs
-opened_with vs (e ∷ es) = opened_with (with_opened vs e) es
+use Rattle.steps.specs.Versions.{versions_in, opened_versions}
 
 -- no checkpoint ran
 abbrev pub no_checkpoint : CheckpointView
@@ -32,4 +21,4 @@ pub record IsOpened (c : List Procedure) (i : Image) (v : CoreView) : Type 0 whe
   pub log : v.log ≡ []
   pub calls : v.calls ≡ replicate SESSIONS None
   pub checkpoint : v.checkpoint ≡ no_checkpoint
-  pub versions : (q : Bytes) → versions_in v.slots q ≡ opened (value_at (table_of i) q)
+  pub versions : (q : Bytes) → versions_in v.slots q ≡ opened_versions (value_at (table_of i) q)

@@ -10,7 +10,7 @@ use Rattle.image.specs.Merges.{table_of}
 use Rattle.record_store.specs.DeadKeys.{precedes}
 use Rattle.record_store.specs.Stores.{key_at}
 use Rattle.steps.specs.CoreViews.{CoreView, any_open, bars, table_now}
-use Rattle.steps.specs.Edits.{versions_in}
+use Rattle.steps.specs.Versions.{versions_in}
 
 -- has an open call touched the key?
 abbrev pub is_touched : CoreView → Bytes → Bool

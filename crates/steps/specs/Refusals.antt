@@ -12,11 +12,9 @@ use Rattle.commitlog.specs.declared.limits.TheConstants as log
 use Rattle.procedure.specs.Runs.{has_ended}
 use Rattle.procedure.specs.Needs.{Touch, Nothing, Reads, Writes}
 use Rattle.record_store.specs.Stores.{Slots, records}
-use Rattle.record_store.specs.declared.limits.TheConstants.{RECORDS}
+use Rattle.record_store.specs.declared.limits.TheConstants.{STORE_RECORDS}
 use Rattle.steps.specs.CoreViews.{CheckpointView, CoreView, Underway, any_open, becomes_next, front_of, is_barred, open_at, touch_next}
-use Rattle.steps.specs.Edits.{versions_in}
-use Rattle.steps.specs.Good.{is_cutting}
-use Rattle.steps.specs.World.{Versions}
+use Rattle.steps.specs.Versions.{versions_in, VersionsByKey}
 use Rattle.steps.specs.declared.errors.AbandonError.{AbandonError}
 use Rattle.steps.specs.declared.errors.AbandonError.TheVariants as abandoning
 use Rattle.steps.specs.declared.errors.AdvanceError.{AdvanceError}
@@ -34,6 +32,14 @@ use Rattle.steps.specs.declared.errors.OpenError.TheVariants as opening
 use Rattle.steps.specs.declared.errors.BeginError.{BeginError}
 use Rattle.steps.specs.declared.errors.BeginError.TheVariants.{NoSession, NoProcedure, Arity, ArgSize, SessionBusy, OldNumber, NoMemory}
 
+-- has the checkpoint that runs a cut? between its resolve token and its end
+abbrev pub is_cutting : Phase → Bool
+is_cutting Rest = false
+is_cutting Prepare = false
+is_cutting Resolve = true
+is_cutting Capture = true
+is_cutting Complete = false
+
 abbrev pub open_error_text : OpenError → Bytes
 open_error_text opening.NotAnOpening = codes "not an opening"
 open_error_text opening.NoMemory = codes "no memory"
@@ -48,9 +54,9 @@ begin_error_text OldNumber = codes "old number"
 begin_error_text NoMemory = codes "no memory"
 
 -- the refusal, where the test fails
-abbrev pub unless : {E : Type 0} → Bool → E → Option E
-unless true e = None
-unless false e = Some e
+abbrev pub refused_unless : {E : Type 0} → Bool → E → Option E
+refused_unless true e = None
+refused_unless false e = Some e
 
 -- does the procedure, if there is one, take so many arguments?
 abbrev pub takes : Option Procedure → ℕ → Bool
@@ -68,12 +74,12 @@ is_above (Some m) n = nat_lt m n
 -- why a call doesn't begin, want of memory apart
 abbrev pub begin_refusal : CoreView → (session number procedure : ℕ) → List Bytes → Option BeginError
 begin_refusal v session number procedure args =
-    option_or (unless (nat_lt session SESSIONS) NoSession)
-    (option_or (unless (is_some (slice_get v.catalog procedure)) NoProcedure)
-    (option_or (unless (takes (slice_get v.catalog procedure) (length args)) Arity)
-    (option_or (unless (all_fit args) ArgSize)
-    (option_or (unless (is_none (open_at v session)) SessionBusy)
-    (unless (is_above (last_number session v.log) number) OldNumber)))))
+    option_or (refused_unless (nat_lt session SESSIONS) NoSession)
+    (option_or (refused_unless (is_some (slice_get v.catalog procedure)) NoProcedure)
+    (option_or (refused_unless (takes (slice_get v.catalog procedure) (length args)) Arity)
+    (option_or (refused_unless (all_fit args) ArgSize)
+    (option_or (refused_unless (is_none (open_at v session)) SessionBusy)
+    (refused_unless (is_above (last_number session v.log) number) OldNumber)))))
 
 -- what is answered is the refusal, or, where there is none, want of memory
 abbrev pub Answers : {X E : Type 0} → Option E → E → Result X E → Type 0
@@ -88,20 +94,20 @@ step_error_text stepping.TableFull = codes "table full"
 step_error_text stepping.NoMemory = codes "no memory"
 
 -- must a touch, by which a key becomes this, make a record of the key?
-abbrev pub makes_record : Versions → Touch → Option Cell → Bool
+abbrev pub makes_record : VersionsByKey → Touch → Option Cell → Bool
 makes_record vs Nothing x = false
 makes_record vs (Reads k) x = false
 makes_record vs (Writes k) x = is_some x && is_none (vs k)
 
-abbrev pub is_full : Slots → Bool
-is_full slots = nat_le RECORDS (records slots)
+abbrev pub is_store_full : Slots → Bool
+is_store_full slots = nat_le STORE_RECORDS (records slots)
 
 abbrev pub unstepped : CoreView → (session : ℕ) → Option Underway → Option StepError
 unstepped v session None = Some stepping.NotActive
 unstepped v session (Some c) =
-    option_or (unless (not (has_ended (front_of v c))) stepping.AlreadyReady)
-    (option_or (unless (not (is_barred v session (touch_next v c))) stepping.Conflict)
-    (unless (not (is_full v.slots && makes_record (versions_in v.slots) (touch_next v c) (becomes_next v c))) stepping.TableFull))
+    option_or (refused_unless (not (has_ended (front_of v c))) stepping.AlreadyReady)
+    (option_or (refused_unless (not (is_barred v session (touch_next v c))) stepping.Conflict)
+    (refused_unless (not (is_store_full v.slots && makes_record (versions_in v.slots) (touch_next v c) (becomes_next v c))) stepping.TableFull))
 
 -- why an instruction isn't executed, want of memory apart
 abbrev pub step_refusal : CoreView → (session : ℕ) → Option StepError
@@ -116,8 +122,8 @@ finish_error_text finishing.NoMemory = codes "no memory"
 abbrev pub unfinished : CoreView → Option Underway → Option FinishError
 unfinished v None = Some finishing.NotActive
 unfinished v (Some c) =
-    option_or (unless (has_ended (front_of v c)) finishing.NotReady)
-    (unless (not (length v.log == log.RECORDS)) finishing.LogFull)
+    option_or (refused_unless (has_ended (front_of v c)) finishing.NotReady)
+    (refused_unless (not (length v.log == log.LOG_RECORDS)) finishing.LogFull)
 
 -- why a call isn't answered, want of memory apart
 abbrev pub finish_refusal : CoreView → (session : ℕ) → Option FinishError
@@ -148,7 +154,7 @@ abandon_error_text abandoning.LogFull = codes "log full"
 abandon_error_text abandoning.NoMemory = codes "no memory"
 
 abbrev pub is_log_full : CoreView → Bool
-is_log_full v = length v.log == log.RECORDS
+is_log_full v = length v.log == log.LOG_RECORDS
 
 abbrev pub is_rest : Phase → Bool
 is_rest Rest = true
@@ -160,9 +166,9 @@ is_rest Complete = false
 -- why a checkpoint doesn't start, want of memory apart
 abbrev pub start_refusal : CoreView → Option StartError
 start_refusal v =
-    option_or (unless (is_rest (phase_of v.log)) starting.NotAtRest)
-    (option_or (unless (is_none v.checkpoint.waiting) starting.NotTaken)
-    (unless (not (is_log_full v)) starting.LogFull))
+    option_or (refused_unless (is_rest (phase_of v.log)) starting.NotAtRest)
+    (option_or (refused_unless (is_none v.checkpoint.waiting) starting.NotTaken)
+    (refused_unless (not (is_log_full v)) starting.LogFull))
 
 -- the place of a phase in their order
 abbrev pub rank : Phase → ℕ
@@ -195,10 +201,10 @@ is_scanning Complete k = false
 -- why the phase doesn't change, want of memory apart
 abbrev pub advance_refusal : CoreView → Option AdvanceError
 advance_refusal v =
-    option_or (unless (not (is_rest (phase_of v.log))) advancing.AtRest)
-    (option_or (unless (not (is_held (phase_of v.log) v.calls)) advancing.StillActive)
-    (option_or (unless (not (is_scanning (phase_of v.log) v.checkpoint)) advancing.NotScanned)
-    (unless (not (is_log_full v)) advancing.LogFull)))
+    option_or (refused_unless (not (is_rest (phase_of v.log))) advancing.AtRest)
+    (option_or (refused_unless (not (is_held (phase_of v.log) v.calls)) advancing.StillActive)
+    (option_or (refused_unless (not (is_scanning (phase_of v.log) v.checkpoint)) advancing.NotScanned)
+    (refused_unless (not (is_log_full v)) advancing.LogFull)))
 
 abbrev pub is_capture : Phase → Bool
 is_capture Rest = false
@@ -209,8 +215,8 @@ is_capture Complete = false
 
 -- why nothing is captured, want of memory apart
 abbrev pub capture_refusal : CoreView → Option CaptureError
-capture_refusal v = unless (is_capture (phase_of v.log)) capturing.NotCapturing
+capture_refusal v = refused_unless (is_capture (phase_of v.log)) capturing.NotCapturing
 
 -- why a checkpoint isn't abandoned, want of memory apart
 abbrev pub abandon_refusal : CoreView → Option AbandonError
-abandon_refusal v = option_or (unless (is_cutting (phase_of v.log)) abandoning.NotAbandonable) (unless (not (is_log_full v)) abandoning.LogFull)
+abandon_refusal v = option_or (refused_unless (is_cutting (phase_of v.log)) abandoning.NotAbandonable) (refused_unless (not (is_log_full v)) abandoning.LogFull)

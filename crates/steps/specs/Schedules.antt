@@ -9,8 +9,7 @@ use Rattle.commitlog.specs.Histories.{number_of, phase_of}
 use Rattle.image.specs.Images.{Image}
 use Rattle.image.specs.Merges.{table_of}
 use Rattle.image.specs.declared.images.Kind.{Kind}
-use Rattle.steps.specs.CoreViews.{CoreView, Finishes, GivesUp, IsAnswer, OfOpen, Steps, front_of, one_more, open_at, stepped_as, with_call}
-use Rattle.steps.specs.Headline.{Begun}
+use Rattle.steps.specs.CoreViews.{CoreView, Finishes, GivesUp, AnswersCall, OfOpen, Steps, front_of, one_more, open_at, stepped_as, with_call, Begun}
 use Rattle.steps.specs.Checkpointing.{AdvancesTo, CapturesAs, abandoned, started, taken}
 use Rattle.steps.specs.CutImages.{IsTaken}
 use Rattle.steps.specs.Reclaiming.{IsReclaimable, Reclaims}
@@ -55,7 +54,7 @@ pub record StepsAs (old new : CoreView) (s : ℕ) (r : Result Stepped StepError)
 module _ {A : Type 0} where
   pub record FinishesAs (old new : CoreView) (s : ℕ) (r : Result (Answer A) FinishError) : Type 0 where
     pub finished : OnOk r (OfOpen old s (Finishes old new s))
-    pub answer : IfOk r (λ a. OfOpen old s (λ c. IsAnswer old c a.place a.outcome a.replies))
+    pub answer : IfOk r (λ a. OfOpen old s (λ c. AnswersCall old c a.place a.outcome a.replies))
     pub refused : OnErr r (new ≡ old)
     pub refusal : Answers (finish_refusal old s) finishing.NoMemory r
 

@@ -5,7 +5,7 @@ ghost use Rattle.std.specs.Result.{result_err};
 ghost use Rattle.procedure.specs.Runs.{at_start};
 ghost use Rattle.procedure.specs.declared.limits.TheConstants.{SESSIONS};
 ghost use Rattle.commitlog.specs.Histories.{code_of, last_number, phase_of};
-ghost use Rattle.steps.specs.CoreFields.{underway};
+ghost use Rattle.steps.specs.inside.CoreFields.{underway};
 ghost use Rattle.steps.specs.CoreViews.{with_call};
 ghost use Rattle.steps.specs.Refusals.{Answers, all_fit, begin_refusal};
 ghost use Rattle.steps.specs.declared.errors.BeginError.TheVariants as refused;

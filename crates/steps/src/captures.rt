@@ -4,16 +4,17 @@ ghost use Rattle.std.specs.Prelude.{◌≡◌, ◌≤◌, ◌++◌, ◌+◌, ℕ
 ghost use Rattle.phase.specs.declared.phases.Phase.TheVariants.{Capture, Complete, Resolve};
 ghost use Rattle.procedure.specs.Bytes.{Bytes};
 ghost use Rattle.commitlog.specs.Histories.{phase_of};
-ghost use Rattle.image.specs.Headers.{IsOnce, of_captured};
-ghost use Rattle.image.specs.Images.{IsLawful};
+ghost use Rattle.image.specs.Headers.{EachKeyOnce, of_captured};
+ghost use Rattle.image.specs.Images.{IsLawfulImage};
 ghost use Rattle.record_store.specs.Stores.{changed, key_at, record_at};
 ghost use Rattle.record_store.specs.Stores as recorded;
-ghost use Rattle.steps.specs.Asides.{aside_at};
+ghost use Rattle.steps.specs.inside.SetAside.{aside_at};
 ghost use Rattle.steps.specs.Checkpointing.{AdvancesTo, CapturesAs, visited};
-ghost use Rattle.steps.specs.Edits.{captured, edited, given_by, given_of, is_kept, kept_of, versions_in};
+ghost use Rattle.steps.specs.inside.RecordEdits.{captured, edited, given_by};
+ghost use Rattle.steps.specs.Versions.{given_of, is_kept, kept_of, versions_in};
 ghost use Rattle.steps.specs.Refusals.{Answers, advance_refusal, capture_refusal};
-ghost use Rattle.steps.specs.Scans.{places, spots};
-ghost use Rattle.steps.specs.World.{base_at};
+ghost use Rattle.steps.specs.inside.CheckpointFields.{places, spots};
+ghost use Rattle.steps.specs.machine.Machine.{base_at};
 ghost use Rattle.steps.specs.declared.errors.CaptureError.TheVariants as capturing;
 
 use crate::checkpointing::push_token;
@@ -107,7 +108,7 @@ fn visit<A: Allocator + Clone>(
     store: &mut Store<A>,
     key: Option<Key>,
 ) -> Result<Option<Entry<A>>, NoMemory>
-    ensures once { IsSome key → recorded.IsOnce store.old }
+    ensures once { IsSome key → recorded.HasKeysOnce store.old }
     ensures keys { OnOk result ((slot : ℕ) → key_at store.new slot ≡ key_at store.old slot) }
     ensures aside { OnOk result ((slot : ℕ) → aside_at store.new slot ≡ aside_at store.old slot) }
     ensures versions { OnOk result ((q : Bytes) → versions_in store.new q ≡ visited key q (versions_in store.old q)) }
@@ -152,8 +153,8 @@ fn image_of<A: Allocator>(
     place: u64,
     entries: Vec<Entry<A>, A>,
 ) -> Image<A>
-    requires once { IsOnce entries.items }
-    requires lawful { IsLawful (of_captured kind number (base_at kind number finished) place entries.items) }
+    requires once { EachKeyOnce entries.items }
+    requires lawful { IsLawfulImage (of_captured kind number (base_at kind number finished) place entries.items) }
     ensures { result ≡ of_captured kind number (base_at kind number finished) place entries.items }
 {
     let base = match kind {

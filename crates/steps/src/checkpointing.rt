@@ -6,12 +6,12 @@ ghost use Rattle.phase.specs.Phases.{successor};
 ghost use Rattle.phase.specs.declared.phases.Phase.TheVariants.{Prepare, Resolve, Capture, Complete, Rest};
 ghost use Rattle.commitlog.specs.Histories.{number_of, phase_of};
 ghost use Rattle.commitlog.specs.Records.{Token};
-ghost use Rattle.commitlog.specs.declared.limits.TheConstants.{RECORDS};
+ghost use Rattle.commitlog.specs.declared.limits.TheConstants.{LOG_RECORDS};
 ghost use Rattle.image.specs.Merges.{table_of};
-ghost use Rattle.record_store.specs.ChangedSets.{no_keys, union};
-ghost use Rattle.steps.specs.CoreFields.{restarted_call};
+ghost use Rattle.record_store.specs.ChangedSets.{empty_set, union};
+ghost use Rattle.steps.specs.inside.CoreFields.{restarted_call};
 ghost use Rattle.steps.specs.CutImages.{IsTaken};
-ghost use Rattle.steps.specs.Checkpointing.{AdvancesTo, abandoned, answered, entered, started, taken};
+ghost use Rattle.steps.specs.Checkpointing.{AdvancesTo, abandoned, entered, started, taken};
 ghost use Rattle.steps.specs.Refusals.{Answers, abandon_refusal, advance_refusal, is_scanning, start_refusal};
 ghost use Rattle.steps.specs.declared.errors.AbandonError.TheVariants as abandoning;
 ghost use Rattle.steps.specs.declared.errors.AdvanceError.TheVariants as advancing;
@@ -33,7 +33,7 @@ pub(crate) fn push_token<A: Allocator>(
     phase: Phase,
     number: u64,
 ) -> Result<(), NoMemory>
-    requires { length log.old.records ≢ RECORDS }
+    requires { length log.old.records ≢ LOG_RECORDS }
     ensures ok { OnOk result (log.new.records ≡ log.old.records ++ Token phase number ∷ []) }
     ensures err { OnErr result (log.new.records ≡ log.old.records) }
 {
@@ -49,10 +49,10 @@ fn make_abandoned<A: Allocator>(
     log: &mut Log<A>,
     number: u64,
 ) -> Result<(), NoMemory>
-    requires { length log.old.records ≢ RECORDS }
+    requires { length log.old.records ≢ LOG_RECORDS }
     ensures log { OnOk result (log.new.records ≡ log.old.records ++ Token Rest number ∷ []) }
     ensures collecting { OnOk result (changed.new.collecting ≡ union changed.old.collecting changed.old.frozen) }
-    ensures frozen { OnOk result (changed.new.frozen ≡ no_keys) }
+    ensures frozen { OnOk result (changed.new.frozen ≡ empty_set) }
     ensures same_log { OnErr result (log.new.records ≡ log.old.records) }
     ensures same_keys { OnErr result (changed.new.collecting ≡ changed.old.collecting) }
     ensures same_frozen { OnErr result (changed.new.frozen ≡ changed.old.frozen) }
@@ -61,16 +61,6 @@ fn make_abandoned<A: Allocator>(
     push_token(log, Phase::Rest, number)?;
     changed.rejoin();
     Ok(())
-}
-
-/// How a change of phase is answered.
-fn answered(entered: Result<(), NoMemory>, phase: Phase) -> Result<Phase, AdvanceError>
-    ensures { result ≡ answered entered phase }
-{
-    match entered {
-        Ok(()) => Ok(phase),
-        Err(NoMemory) => Err(AdvanceError::NoMemory),
-    }
 }
 
 /// An open call counts as begun at rest.
@@ -97,7 +87,7 @@ impl<A: Allocator> Core<A> {
     /// Whether a checkpoint may begin, want of memory apart.
     fn may_start(&self) -> Result<(), StartError>
         ensures ok { OnOk result (start_refusal self.now ≡ None) }
-        ensures few { OnOk result (length self.now.log ≤ RECORDS) }
+        ensures few { OnOk result (length self.now.log ≤ LOG_RECORDS) }
         ensures err { IfErr result (λ e. start_refusal self.now ≡ Some e) }
     {
         match self.phase {
@@ -247,6 +237,21 @@ impl<A: Allocator> Core<A> {
 }
 
 impl<A: Allocator + Clone> Core<A> {
+    /// Enters the phase that follows, which nothing refuses.
+    fn enter_next(&mut self) -> Result<(), NoMemory>
+        requires { advance_refusal self.old ≡ None }
+        ensures ok { OnOk result (AdvancesTo (successor (phase_of self.old.log)) self.old self.new) }
+        ensures err { OnErr result (self.new ≡ self.old) }
+    {
+        match self.phase {
+            Phase::Rest => unreachable!(),
+            Phase::Prepare => self.resolve(),
+            Phase::Resolve => self.begin_scan(),
+            Phase::Capture => self.complete(),
+            Phase::Complete => self.rest(),
+        }
+    }
+
     /// Enters the phase that follows, and answers it: into resolve the checkpoint's cut is made, into
     /// capture its scan begins, into complete its image is finished, and into rest it ends. The log
     /// gets a token that says so.
@@ -261,12 +266,10 @@ impl<A: Allocator + Clone> Core<A> {
         ensures refusal { Answers (advance_refusal self.old) advancing.NoMemory result }
     {
         self.may_advance()?;
-        match self.phase {
-            Phase::Rest => Err(AdvanceError::AtRest),
-            Phase::Prepare => answered(self.resolve(), Phase::Resolve),
-            Phase::Resolve => answered(self.begin_scan(), Phase::Capture),
-            Phase::Capture => answered(self.complete(), Phase::Complete),
-            Phase::Complete => answered(self.rest(), Phase::Rest),
+        let entered = self.phase.next();
+        match self.enter_next() {
+            Ok(()) => Ok(entered),
+            Err(NoMemory) => Err(AdvanceError::NoMemory),
         }
     }
 }

@@ -1,7 +1,7 @@
 //! The checkpoint of a core, as it is kept.
 
 ghost use Rattle.std.specs.Prelude.{◌≡◌};
-ghost use Rattle.steps.specs.CoreFields.{checkpoint_of};
+ghost use Rattle.steps.specs.inside.CoreFields.{checkpoint_of};
 ghost use Rattle.steps.specs.Openings.{no_checkpoint};
 
 use image::{Entry, Image, Kind};

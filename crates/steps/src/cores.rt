@@ -2,7 +2,7 @@
 
 ghost use Rattle.std.specs.Prelude.{◌≡◌, ◌≤◌, length, true};
 ghost use Rattle.commitlog.specs.Histories.{IsCyclic, IsLegal, IsOrderly, phase_of};
-ghost use Rattle.commitlog.specs.declared.limits.TheConstants.{RECORDS};
+ghost use Rattle.commitlog.specs.declared.limits.TheConstants.{LOG_RECORDS};
 ghost use Rattle.image.specs.Merges.{table_of};
 ghost use Rattle.image.specs.Openings.{is_opening};
 ghost use Rattle.steps.specs.CoreViews.{IsSmall};
@@ -43,7 +43,7 @@ impl<A: Allocator> Model for Core<A> {
 
     ghost Value = { CoreView };
 
-    ghost use Rattle.steps.specs.CoreFields.{view_of, IsCore};
+    ghost use Rattle.steps.specs.inside.CoreFields.{view_of, IsCore};
 
     ghost view = { view_of };
 
@@ -62,7 +62,7 @@ impl<A: Allocator> Core<A> {
     /// run whole, one after another, from the opening, each leaving at most 100,000 keys.
     pub fn records(&self) -> &[Record<A>]
         ensures value { result.now ≡ self.now.log }
-        ensures most { length self.now.log ≤ RECORDS }
+        ensures most { length self.now.log ≤ LOG_RECORDS }
         ensures legal { IsLegal self.now.catalog (table_of self.now.opening) self.now.log }
         ensures orderly { IsOrderly self.now.log }
         ensures cyclic { IsCyclic self.now.log }

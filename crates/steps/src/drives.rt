@@ -5,13 +5,12 @@ ghost use Rattle.procedure.specs.declared.limits.TheConstants.{SESSIONS};
 ghost use Rattle.commitlog.specs.Histories.{IsCyclic, IsLegal, IsOrderly};
 ghost use Rattle.image.specs.Merges.{table_of};
 ghost use Rattle.steps.specs.CoreViews.{CoreView, IsSmall};
-ghost use Rattle.steps.specs.Headline.{calls_of};
+ghost use Rattle.steps.specs.Drives.{calls_of, EachStands, IsDriven};
 ghost use Rattle.image.specs.Openings.{is_opening};
 ghost use Rattle.steps.specs.Openings.{IsOpened};
-ghost use Rattle.steps.specs.Refusals.{Answers, unless};
+ghost use Rattle.steps.specs.Refusals.{Answers, refused_unless};
 ghost use Rattle.steps.specs.CutImages.{AllTaken, ChainsAreCuts};
 ghost use Rattle.steps.specs.Schedules.{HandlesAll, answered_calls, images_in};
-ghost use Rattle.steps.specs.Drives.{EachStands, IsDriven};
 ghost use Rattle.steps.specs.declared.errors.OpenError.TheVariants as refused;
 
 use crate::cores::Core;
@@ -71,6 +70,8 @@ pub fn drive<A: Allocator + Copy>(
     events: Vec<Event<A>, A>,
 ) -> Result<Run<A>, OpenError>
     ensures run { IfOk result (λ r. IsDriven catalog opening events.items r.core r.answers.items) }
+    ensures catalog { IfOk result (λ r. r.core.catalog ≡ catalog) }
+    ensures opening { IfOk result (λ r. r.core.opening ≡ opening) }
     ensures legal { IfOk result (λ r. IsLegal r.core.catalog (table_of r.core.opening) r.core.log) }
     ensures orderly { IfOk result (λ r. IsOrderly r.core.log) }
     ensures cyclic { IfOk result (λ r. IsCyclic r.core.log) }
@@ -79,7 +80,7 @@ pub fn drive<A: Allocator + Copy>(
     ensures places { IfOk result (λ r. EachStands r.core.log (answered_calls events.items r.answers.items (replicate SESSIONS None))) }
     ensures images { IfOk result (λ r. AllTaken r.core.catalog (table_of r.core.opening) r.core.log (images_in r.answers.items)) }
     ensures chains { IfOk result (λ r. ChainsAreCuts r.core.catalog (table_of r.core.opening) r.core.log (images_in r.answers.items)) }
-    ensures refusal { Answers (unless (is_opening opening) refused.NotAnOpening) refused.NoMemory result }
+    ensures refusal { Answers (refused_unless (is_opening opening) refused.NotAnOpening) refused.NoMemory result }
 {
     let mut core = Core::open(alloc, catalog, opening)?;
     let answers = match answer_all(alloc, &mut core, events) {

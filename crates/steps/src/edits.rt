@@ -3,12 +3,12 @@
 
 ghost use Rattle.std.specs.Prelude.{◌≡◌, ◌≤◌, ◌↔◌, false, ℕ, cond, IfOk, OnOk, OnErr, IsSome, IsTrue, None, Some, Err, option_copied, true, map, length, is_some, ◌||◌};
 ghost use Rattle.procedure.specs.Bytes.{Bytes, same};
-ghost use Rattle.record_store.specs.Stores.{IsOnce, changed, live_at, record_at, records};
+ghost use Rattle.record_store.specs.Stores.{HasKeysOnce, changed, live_at, record_at, records};
 ghost use Rattle.record_store.specs.ChangedSets.{has, room};
 ghost use Rattle.record_store.specs.declared.stores.CreateError.TheVariants.{TableFull};
-ghost use Rattle.record_store.specs.declared.limits.TheConstants.{RECORDS};
-ghost use Rattle.steps.specs.World.{copied, is_late, kept, kept_key, live_of, undone_key, wrote};
-ghost use Rattle.steps.specs.Edits.{KeepsSlots, available_at, has_stable_at, undone_version, all_kept, all_undone, edited, first_noted, noted_of, versions_in, written};
+ghost use Rattle.record_store.specs.declared.limits.TheConstants.{STORE_RECORDS};
+ghost use Rattle.steps.specs.Versions.{copied, is_late, kept, kept_key, live_version, undone_key, wrote, versions_in};
+ghost use Rattle.steps.specs.inside.RecordEdits.{KeepsSlots, available_at, has_stable_at, undone_version, all_kept, all_undone, edited, first_noted, noted_of, written_versions};
 
 use crate::notes::Note;
 use phase::Phase;
@@ -86,7 +86,7 @@ fn write_record<A: Allocator + Clone>(
     live: Option<Value<A>>,
 ) -> Result<Option<Value<A>>, NoMemory>
     ensures before { IfOk result (λ before. before ≡ live_at store.old slot) }
-    ensures ok { OnOk result (store.new ≡ changed (edited (written start live)) store.old slot) }
+    ensures ok { OnOk result (store.new ≡ changed (edited (written_versions start live)) store.old slot) }
     ensures err { OnErr result (store.new ≡ store.old) }
     ensures memory { OnErr result (IsSome (live_at store.old slot)) }
 {
@@ -110,11 +110,11 @@ pub(crate) fn write_key<A: Allocator + Clone>(
     start: Phase,
     live: Option<Value<A>>,
 ) -> Result<Option<Value<A>>, CreateError>
-    ensures before { IfOk result (λ before. before ≡ live_of (versions_in store.old key)) }
+    ensures before { IfOk result (λ before. before ≡ live_version (versions_in store.old key)) }
     ensures ok { OnOk result ((q : Bytes) → versions_in store.new q ≡ cond (same q key) (Some (wrote phase start (versions_in store.old key) live)) (versions_in store.old q)) }
     ensures keys { KeepsSlots store.old store.new }
     ensures err { OnErr result (store.new ≡ store.old) }
-    ensures full { (result ≡ Err TableFull) ↔ (RECORDS ≤ records store.old) × (versions_in store.old key ≡ None) }
+    ensures full { (result ≡ Err TableFull) ↔ (STORE_RECORDS ≤ records store.old) × (versions_in store.old key ≡ None) }
 {
     match store.find(&key) {
         Some(slot) => match write_record(store, slot, start, live) {
@@ -136,7 +136,7 @@ pub(crate) fn write_key<A: Allocator + Clone>(
 
 /// What a key holds.
 pub(crate) fn found<'a, A: Allocator>(store: &'a Store<A>, key: &Key) -> Option<&'a Value<A>>
-    ensures { option_copied result ≡ live_of (versions_in store.now key.now) }
+    ensures { option_copied result ≡ live_version (versions_in store.now key.now) }
 {
     match store.find(key) {
         Some(slot) => live(store, slot),

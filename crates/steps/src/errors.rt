@@ -46,19 +46,31 @@ pub enum StepError {
     NoMemory,
 }
 
+impl StepError {
+    ghost use Rattle.std.specs.Prelude.{◌≡◌};
+    ghost use Rattle.steps.specs.Refusals.{step_error_text};
+
+    /// The name of the refusal, as it is printed.
+    pub fn name(self) -> &'static str
+        ensures { result.now ≡ step_error_text self }
+    {
+        match self {
+            StepError::NotActive => "not active",
+            StepError::AlreadyReady => "already ready",
+            StepError::Conflict => "conflict",
+            StepError::TableFull => "table full",
+            StepError::NoMemory => "no memory",
+        }
+    }
+}
+
 impl fmt::Display for StepError {
     ghost use Rattle.steps.specs.Refusals.{step_error_text};
 
     ghost output = { λ e. Some (step_error_text e) };
 
     fn fmt<W: fmt::Write>(&self, f: &mut fmt::Formatter<W>) -> fmt::Result {
-        f.write_str(match self {
-            StepError::NotActive => "not active",
-            StepError::AlreadyReady => "already ready",
-            StepError::Conflict => "conflict",
-            StepError::TableFull => "table full",
-            StepError::NoMemory => "no memory",
-        })
+        f.write_str(self.name())
     }
 }
 
@@ -76,18 +88,30 @@ pub enum FinishError {
     NoMemory,
 }
 
+impl FinishError {
+    ghost use Rattle.std.specs.Prelude.{◌≡◌};
+    ghost use Rattle.steps.specs.Refusals.{finish_error_text};
+
+    /// The name of the refusal, as it is printed.
+    pub fn name(self) -> &'static str
+        ensures { result.now ≡ finish_error_text self }
+    {
+        match self {
+            FinishError::NotActive => "not active",
+            FinishError::NotReady => "not ready",
+            FinishError::LogFull => "log full",
+            FinishError::NoMemory => "no memory",
+        }
+    }
+}
+
 impl fmt::Display for FinishError {
     ghost use Rattle.steps.specs.Refusals.{finish_error_text};
 
     ghost output = { λ e. Some (finish_error_text e) };
 
     fn fmt<W: fmt::Write>(&self, f: &mut fmt::Formatter<W>) -> fmt::Result {
-        f.write_str(match self {
-            FinishError::NotActive => "not active",
-            FinishError::NotReady => "not ready",
-            FinishError::LogFull => "log full",
-            FinishError::NoMemory => "no memory",
-        })
+        f.write_str(self.name())
     }
 }
 
@@ -97,17 +121,43 @@ impl Error for FinishError {}
 #[derive(Clone, Copy, Debug, PartialEq, Eq)]
 pub struct NotActive;
 
+impl NotActive {
+    ghost use Rattle.std.specs.Prelude.{◌≡◌, codes};
+
+    /// The name of the refusal, as it is printed.
+    pub fn name(self) -> &'static str
+        ensures { result.now ≡ codes "not active" }
+    {
+        "not active"
+    }
+}
+
 impl fmt::Display for NotActive {
     ghost use Rattle.std.specs.Prelude.{codes};
 
     ghost output = { λ _. Some (codes "not active") };
 
     fn fmt<W: fmt::Write>(&self, f: &mut fmt::Formatter<W>) -> fmt::Result {
-        f.write_str("not active")
+        f.write_str(self.name())
     }
 }
 
 impl Error for NotActive {}
+
+impl OpenError {
+    ghost use Rattle.std.specs.Prelude.{◌≡◌};
+    ghost use Rattle.steps.specs.Refusals.{open_error_text};
+
+    /// The name of the refusal, as it is printed.
+    pub fn name(self) -> &'static str
+        ensures { result.now ≡ open_error_text self }
+    {
+        match self {
+            OpenError::NotAnOpening => "not an opening",
+            OpenError::NoMemory => "no memory",
+        }
+    }
+}
 
 impl fmt::Display for OpenError {
     ghost use Rattle.steps.specs.Refusals.{open_error_text};
@@ -115,10 +165,7 @@ impl fmt::Display for OpenError {
     ghost output = { λ e. Some (open_error_text e) };
 
     fn fmt<W: fmt::Write>(&self, f: &mut fmt::Formatter<W>) -> fmt::Result {
-        f.write_str(match self {
-            OpenError::NotAnOpening => "not an opening",
-            OpenError::NoMemory => "no memory",
-        })
+        f.write_str(self.name())
     }
 }
 
@@ -130,13 +177,15 @@ impl From<NoMemory> for OpenError {
     }
 }
 
-impl fmt::Display for BeginError {
+impl BeginError {
+    ghost use Rattle.std.specs.Prelude.{◌≡◌};
     ghost use Rattle.steps.specs.Refusals.{begin_error_text};
 
-    ghost output = { λ e. Some (begin_error_text e) };
-
-    fn fmt<W: fmt::Write>(&self, f: &mut fmt::Formatter<W>) -> fmt::Result {
-        f.write_str(match self {
+    /// The name of the refusal, as it is printed.
+    pub fn name(self) -> &'static str
+        ensures { result.now ≡ begin_error_text self }
+    {
+        match self {
             BeginError::NoSession => "no session",
             BeginError::NoProcedure => "no procedure",
             BeginError::Arity => "arity",
@@ -144,7 +193,17 @@ impl fmt::Display for BeginError {
             BeginError::SessionBusy => "session busy",
             BeginError::OldNumber => "old number",
             BeginError::NoMemory => "no memory",
-        })
+        }
+    }
+}
+
+impl fmt::Display for BeginError {
+    ghost use Rattle.steps.specs.Refusals.{begin_error_text};
+
+    ghost output = { λ e. Some (begin_error_text e) };
+
+    fn fmt<W: fmt::Write>(&self, f: &mut fmt::Formatter<W>) -> fmt::Result {
+        f.write_str(self.name())
     }
 }
 
@@ -168,18 +227,30 @@ pub enum StartError {
     NoMemory,
 }
 
+impl StartError {
+    ghost use Rattle.std.specs.Prelude.{◌≡◌};
+    ghost use Rattle.steps.specs.Refusals.{start_error_text};
+
+    /// The name of the refusal, as it is printed.
+    pub fn name(self) -> &'static str
+        ensures { result.now ≡ start_error_text self }
+    {
+        match self {
+            StartError::NotAtRest => "not at rest",
+            StartError::NotTaken => "not taken",
+            StartError::LogFull => "log full",
+            StartError::NoMemory => "no memory",
+        }
+    }
+}
+
 impl fmt::Display for StartError {
     ghost use Rattle.steps.specs.Refusals.{start_error_text};
 
     ghost output = { λ e. Some (start_error_text e) };
 
     fn fmt<W: fmt::Write>(&self, f: &mut fmt::Formatter<W>) -> fmt::Result {
-        f.write_str(match self {
-            StartError::NotAtRest => "not at rest",
-            StartError::NotTaken => "not taken",
-            StartError::LogFull => "log full",
-            StartError::NoMemory => "no memory",
-        })
+        f.write_str(self.name())
     }
 }
 
@@ -199,19 +270,31 @@ pub enum AdvanceError {
     NoMemory,
 }
 
+impl AdvanceError {
+    ghost use Rattle.std.specs.Prelude.{◌≡◌};
+    ghost use Rattle.steps.specs.Refusals.{advance_error_text};
+
+    /// The name of the refusal, as it is printed.
+    pub fn name(self) -> &'static str
+        ensures { result.now ≡ advance_error_text self }
+    {
+        match self {
+            AdvanceError::AtRest => "at rest",
+            AdvanceError::StillActive => "still active",
+            AdvanceError::NotScanned => "not scanned",
+            AdvanceError::LogFull => "log full",
+            AdvanceError::NoMemory => "no memory",
+        }
+    }
+}
+
 impl fmt::Display for AdvanceError {
     ghost use Rattle.steps.specs.Refusals.{advance_error_text};
 
     ghost output = { λ e. Some (advance_error_text e) };
 
     fn fmt<W: fmt::Write>(&self, f: &mut fmt::Formatter<W>) -> fmt::Result {
-        f.write_str(match self {
-            AdvanceError::AtRest => "at rest",
-            AdvanceError::StillActive => "still active",
-            AdvanceError::NotScanned => "not scanned",
-            AdvanceError::LogFull => "log full",
-            AdvanceError::NoMemory => "no memory",
-        })
+        f.write_str(self.name())
     }
 }
 
@@ -225,16 +308,28 @@ pub enum CaptureError {
     NoMemory,
 }
 
+impl CaptureError {
+    ghost use Rattle.std.specs.Prelude.{◌≡◌};
+    ghost use Rattle.steps.specs.Refusals.{capture_error_text};
+
+    /// The name of the refusal, as it is printed.
+    pub fn name(self) -> &'static str
+        ensures { result.now ≡ capture_error_text self }
+    {
+        match self {
+            CaptureError::NotCapturing => "not capturing",
+            CaptureError::NoMemory => "no memory",
+        }
+    }
+}
+
 impl fmt::Display for CaptureError {
     ghost use Rattle.steps.specs.Refusals.{capture_error_text};
 
     ghost output = { λ e. Some (capture_error_text e) };
 
     fn fmt<W: fmt::Write>(&self, f: &mut fmt::Formatter<W>) -> fmt::Result {
-        f.write_str(match self {
-            CaptureError::NotCapturing => "not capturing",
-            CaptureError::NoMemory => "no memory",
-        })
+        f.write_str(self.name())
     }
 }
 
@@ -250,17 +345,29 @@ pub enum AbandonError {
     NoMemory,
 }
 
+impl AbandonError {
+    ghost use Rattle.std.specs.Prelude.{◌≡◌};
+    ghost use Rattle.steps.specs.Refusals.{abandon_error_text};
+
+    /// The name of the refusal, as it is printed.
+    pub fn name(self) -> &'static str
+        ensures { result.now ≡ abandon_error_text self }
+    {
+        match self {
+            AbandonError::NotAbandonable => "not abandonable",
+            AbandonError::LogFull => "log full",
+            AbandonError::NoMemory => "no memory",
+        }
+    }
+}
+
 impl fmt::Display for AbandonError {
     ghost use Rattle.steps.specs.Refusals.{abandon_error_text};
 
     ghost output = { λ e. Some (abandon_error_text e) };
 
     fn fmt<W: fmt::Write>(&self, f: &mut fmt::Formatter<W>) -> fmt::Result {
-        f.write_str(match self {
-            AbandonError::NotAbandonable => "not abandonable",
-            AbandonError::LogFull => "log full",
-            AbandonError::NoMemory => "no memory",
-        })
+        f.write_str(self.name())
     }
 }
 

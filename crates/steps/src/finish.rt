@@ -2,54 +2,30 @@
 
 ghost use Rattle.std.specs.Prelude.{◌≡◌, ◌≤◌, ◌≢◌, ◌==◌, ◌↔◌, ◌||◌, ◌++◌, ◌∷◌, [], ℕ, IfOk, OnErr, OnOk, None, Some, option_copied, if◌then◌else◌, is_some, length, map, slice_index_or, slice_set, vec_len};
 ghost use Rattle.procedure.specs.Bytes.{Bytes};
-ghost use Rattle.procedure.specs.Runs.{ended};
 ghost use Rattle.procedure.specs.declared.outcomes.TheConstants.{COMMITTED};
-ghost use Rattle.commitlog.specs.Records.{IsInRange, call_of};
-ghost use Rattle.commitlog.specs.declared.limits.TheConstants.{RECORDS};
+ghost use Rattle.commitlog.specs.Records.{Call as Answered, IsInRange, call_of};
+ghost use Rattle.commitlog.specs.declared.limits.TheConstants.{LOG_RECORDS};
 ghost use Rattle.record_store.specs.ChangedSets.{has, room};
 ghost use Rattle.record_store.specs.Stores.{records};
 ghost use Rattle.record_store.specs.declared.limits.TheConstants as stored;
-ghost use Rattle.steps.specs.Edits.{KeepsSlots, all_kept, all_undone, first_noted, noted_of, versions_in};
-ghost use Rattle.steps.specs.CoreFields.{notes_at};
-ghost use Rattle.steps.specs.CoreViews.{Finishes, IsAnswer, OfOpen, front_of, open_at};
+ghost use Rattle.steps.specs.inside.RecordEdits.{KeepsSlots, all_kept, all_undone, first_noted, noted_of};
+ghost use Rattle.steps.specs.Versions.{versions_in};
+ghost use Rattle.steps.specs.inside.CoreFields.{notes_at};
+ghost use Rattle.steps.specs.CoreViews.{Finishes, AnswersCall, OfOpen, front_of, open_at};
 ghost use Rattle.steps.specs.Refusals.{Answers, finish_refusal};
 ghost use Rattle.steps.specs.declared.errors.FinishError.TheVariants as refused;
 
-use crate::calls::OpenCall;
+use crate::calls::{OpenCall, call_of, outcome_of, taken};
 use crate::cores::Core;
 use crate::edits::{collect, copy_of, keep_all, undo_all};
 use crate::errors::FinishError;
-use crate::give_up::taken;
 use crate::notes::Note;
 use commitlog::{Log, Record};
 use phase::Phase;
 use procedure::outcomes::COMMITTED;
-use procedure::{Access, Call, Machine, NoMemory, Sequence, Value};
+use procedure::{Call, NoMemory, Sequence, Value};
 use record_store::{Changed, Store};
 use std::alloc::Allocator;
-
-/// The outcome, where the call has ended.
-pub(crate) fn outcome_of<A: Allocator>(machine: &Machine<A>) -> Option<u8>
-    ensures { result ≡ ended machine.now.progress }
-{
-    match machine.access() {
-        Access::Ended(outcome) => Some(outcome),
-        _ => None,
-    }
-}
-
-/// The open call of a session.
-pub(crate) fn call_of<A: Allocator>(
-    calls: &[Option<OpenCall<A>>],
-    session: usize,
-) -> Option<&OpenCall<A>>
-    ensures { option_copied result ≡ slice_index_or calls.now session None }
-{
-    match calls.get(session) {
-        Some(held) => held.as_ref(),
-        None => None,
-    }
-}
 
 /// How many writes of a session's call are noted.
 fn count_notes<A: Allocator>(calls: &[Option<OpenCall<A>>], session: usize) -> usize
@@ -94,7 +70,7 @@ fn record_of<A: Allocator>(
 
 /// A record goes into the log, which has room for it.
 fn append<A: Allocator>(log: &mut Log<A>, added: Record<A>)
-    requires not_full { length log.old.records ≢ RECORDS }
+    requires not_full { length log.old.records ≢ LOG_RECORDS }
     requires room { 1 ≤ log.old.room }
     ensures { log.new.records ≡ log.old.records ++ added ∷ [] }
 {
@@ -120,7 +96,7 @@ fn settle<A: Allocator>(
     ensures frozen { changed.new.frozen ≡ changed.old.frozen }
     ensures keys { KeepsSlots store.old store.new }
     ensures slots { length store.new ≡ length store.old }
-    ensures most { records store.new ≤ stored.RECORDS }
+    ensures most { records store.new ≤ stored.STORE_RECORDS }
 {
     if outcome == COMMITTED {
         keep_all(store, notes.as_slice(), start, phase);
@@ -131,6 +107,47 @@ fn settle<A: Allocator>(
         undo_all(store, notes);
         let _records = store.len();
     }
+}
+
+/// A call that ended goes into the log, and its writes are settled.
+fn end_call<A: Allocator>(
+    store: &mut Store<A>,
+    changed: &mut Changed<A>,
+    log: &mut Log<A>,
+    session: u16,
+    call: OpenCall<A>,
+    outcome: u8,
+    phase: Phase,
+)
+    requires range { IsInRange (Answered session call.number call.procedure call.machine.args outcome call.machine.progress.replies) }
+    requires notes { length call.notes.items ≤ room changed.old }
+    requires not_full { length log.old.records ≢ LOG_RECORDS }
+    requires room { 1 ≤ log.old.room }
+    ensures log { log.new.records ≡ log.old.records ++ Answered session call.number call.procedure call.machine.args outcome call.machine.progress.replies ∷ [] }
+    ensures versions { (q : Bytes) → versions_in store.new q ≡ (if outcome == COMMITTED then all_kept call.start phase (map noted_of call.notes.items) (versions_in store.old) q else all_undone (map noted_of call.notes.items) (versions_in store.old) q) }
+    ensures collecting { (q : Bytes) → has changed.new.collecting q ≡ (if outcome == COMMITTED then (is_some (first_noted (map noted_of call.notes.items) q) || has changed.old.collecting q) else has changed.old.collecting q) }
+    ensures frozen { changed.new.frozen ≡ changed.old.frozen }
+    ensures keys { KeepsSlots store.old store.new }
+    ensures slots { length store.new ≡ length store.old }
+    ensures most { records store.new ≤ stored.STORE_RECORDS }
+{
+    let OpenCall {
+        number,
+        procedure,
+        start,
+        executed: _,
+        machine,
+        notes,
+    } = call;
+    let (args, replies) = machine.into_parts();
+    let ended = Call {
+        session,
+        number,
+        procedure,
+        args,
+    };
+    settle(store, changed, notes, outcome, start, phase);
+    append(log, record_of(ended, outcome, replies));
 }
 
 fn copy_of_replies<A: Allocator + Clone>(
@@ -180,7 +197,7 @@ impl<A: Allocator + Clone> Core<A> {
     /// call is as before, and may be finished later.
     pub fn finish(&mut self, session: u16) -> Result<Answer<A>, FinishError>
         ensures finished { OnOk result (OfOpen self.old session (Finishes self.old self.new session)) }
-        ensures answer { IfOk result (λ a. OfOpen self.old session (λ c. IsAnswer self.old c a.place a.outcome a.replies)) }
+        ensures answer { IfOk result (λ a. OfOpen self.old session (λ c. AnswersCall self.old c a.place a.outcome a.replies)) }
         ensures refused { OnErr result (self.new ≡ self.old) }
         ensures refusal { Answers (finish_refusal self.old session) refused.NoMemory result }
     {
@@ -195,30 +212,16 @@ impl<A: Allocator + Clone> Core<A> {
         let place = self.log.len();
         match taken(&mut self.calls, index) {
             Some(call) => {
-                let OpenCall {
-                    number,
-                    procedure,
-                    start,
-                    executed: _,
-                    machine,
-                    notes,
-                } = call;
-                let (args, given) = machine.into_parts();
-                let call = Call {
-                    session,
-                    number,
-                    procedure,
-                    args,
-                };
-                settle(
+                let number = call.number;
+                end_call(
                     &mut self.store,
                     &mut self.changed,
-                    notes,
+                    &mut self.log,
+                    session,
+                    call,
                     outcome,
-                    start,
                     phase,
                 );
-                append(&mut self.log, record_of(call, outcome, given));
                 self.locks.release_all(index);
                 self.aside = self.aside.after_release();
                 self.active.clear(index);

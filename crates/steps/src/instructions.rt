@@ -6,9 +6,10 @@ ghost use Rattle.procedure.specs.Needs.{CopiesValue, accessed};
 ghost use Rattle.procedure.specs.Runs.{advanced, next_need};
 ghost use Rattle.procedure.specs.declared.needs.Access.TheVariants as access;
 ghost use Rattle.procedure.specs.declared.limits.TheConstants.{INSTRUCTIONS};
-ghost use Rattle.steps.specs.Advances.{Advances, GoesOn, SameOpen, Wrote, fed_with, touch_by};
-ghost use Rattle.steps.specs.World.{live_of, note, wrote};
-ghost use Rattle.steps.specs.Edits.{first_noted, noted_of, versions_in};
+ghost use Rattle.steps.specs.inside.Instructions.{Advances, ExecutesOne, SameOpen, Wrote, fed_with, touch_by};
+ghost use Rattle.steps.specs.Versions.{live_version, wrote, versions_in};
+ghost use Rattle.steps.specs.machine.Machine.{note};
+ghost use Rattle.steps.specs.inside.RecordEdits.{first_noted, noted_of};
 
 use crate::calls::OpenCall;
 use crate::edits::{found, write_key};
@@ -64,7 +65,7 @@ fn write<A: Allocator + Clone>(
     phase: Phase,
 ) -> Result<(), CreateError>
     requires { accessed (next_need call.old.machine.args call.old.machine.progress) ≡ access.Writes key }
-    ensures ok { OnOk result (GoesOn phase store.old call.old store.new call.new) }
+    ensures ok { OnOk result (ExecutesOne phase store.old call.old store.new call.new) }
     ensures executed { call.new.executed ≡ call.old.executed }
     ensures err { OnErr result ((store.new ≡ store.old) × SameOpen call.old call.new) }
 {
@@ -83,7 +84,7 @@ fn write<A: Allocator + Clone>(
 
 /// What the key holds that an instruction touches.
 fn seen<A: Allocator>(store: &Store<A>, access: Access) -> Option<&Value<A>>
-    ensures { option_copied result ≡ Rattle.steps.specs.World.found (versions_in store.now) (touch_by access) }
+    ensures { option_copied result ≡ Rattle.steps.specs.Versions.found (versions_in store.now) (touch_by access) }
 {
     match access {
         Access::Reads(key) | Access::Writes(key) => found(store, &key),
@@ -97,7 +98,7 @@ fn read<A: Allocator + Clone>(
     machine: &mut Machine<A>,
     access: Access,
 ) -> Result<(), NoMemory>
-    ensures ok { OnOk result (machine.new ≡ fed_with (Rattle.steps.specs.World.found (versions_in store.now) (touch_by access)) machine.old) }
+    ensures ok { OnOk result (machine.new ≡ fed_with (Rattle.steps.specs.Versions.found (versions_in store.now) (touch_by access)) machine.old) }
     ensures err { OnErr result (machine.new ≡ machine.old) }
 {
     machine.fed(seen(store, access))

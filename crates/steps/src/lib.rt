@@ -1,10 +1,11 @@
 //! The engine's core: it runs the calls of sessions under strict two-phase locking, and keeps the log
 //! of those that were answered.
 //!
-//! The definitions are in `specs/`: what contracts see of a core (`CoreViews`), when its calls are
-//! refused (`Refusals`), what events do to it and how they are answered (`Schedules`, `Drives`), the
-//! machine of which each of its states is one (`World`), and what is promised of every schedule of that
-//! machine (`Promises`).
+//! What a reader must believe stands at the top of `specs/`: what contracts see of a core (`CoreViews`)
+//! and of a key's record (`Versions`), when calls are refused (`Refusals`), what events do and how they
+//! are answered (`Schedules`, `Drives`), and what is promised of every schedule (`Promises`). The machine
+//! of which each state of a core is one is in `specs/machine/`, and how its fields stand for that in
+//! `specs/inside/`.
 #![tactic(auto)]
 
 mod begin;

@@ -4,8 +4,8 @@ ghost use Rattle.std.specs.Prelude.{◌≡◌, ◌<◌, ◌↔◌, Err, IfOk, On
 ghost use Rattle.procedure.specs.declared.limits.TheConstants.{SESSIONS};
 ghost use Rattle.locktable.specs.Modes.{IsAtMost};
 ghost use Rattle.locktable.specs.declared.errors.LockError.TheVariants.{Conflict};
-ghost use Rattle.steps.specs.Advances.{touch_by};
-ghost use Rattle.steps.specs.Locked.{IsExcluded, held_of, held_so, locked};
+ghost use Rattle.steps.specs.inside.Instructions.{touch_by};
+ghost use Rattle.steps.specs.inside.InstructionLocks.{IsExcluded, mode_of_touch, held_so, locked};
 
 use locktable::{LockError, LockTable, Mode};
 use procedure::Access;
@@ -18,7 +18,7 @@ pub(crate) fn lock<A: Allocator>(
     access: &Access,
 ) -> Result<Option<Mode>, LockError>
     requires { session < SESSIONS }
-    ensures before { IfOk result (λ before. before ≡ held_of locks.old session (touch_by access.now)) }
+    ensures before { IfOk result (λ before. before ≡ mode_of_touch locks.old session (touch_by access.now)) }
     ensures granted { OnOk result (locks.new ≡ locked locks.old session (touch_by access.now)) }
     ensures refused { OnErr result (locks.new ≡ locks.old) }
     ensures conflict { result ≡ Err Conflict ↔ IsExcluded locks.old session (touch_by access.now) }
@@ -41,7 +41,7 @@ pub(crate) fn unlock<A: Allocator>(
     before: Option<Mode>,
 )
     requires session { session < SESSIONS }
-    requires weaker { IsAtMost before (held_of locks.old session (touch_by access.now)) }
+    requires weaker { IsAtMost before (mode_of_touch locks.old session (touch_by access.now)) }
     ensures { locks.new ≡ held_so locks.old session (touch_by access.now) before }
 {
     match access {

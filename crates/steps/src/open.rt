@@ -7,10 +7,10 @@ ghost use Rattle.procedure.specs.Table.{value_at};
 ghost use Rattle.procedure.specs.declared.limits.TheConstants.{SESSIONS};
 ghost use Rattle.image.specs.Merges.{table_of};
 ghost use Rattle.image.specs.Openings.{is_opening};
-ghost use Rattle.steps.specs.Edits.{versions_in};
-ghost use Rattle.steps.specs.Openings.{opened_with, with_opened, IsOpened};
-ghost use Rattle.steps.specs.Refusals.{Answers, unless};
-ghost use Rattle.steps.specs.World.{opened};
+ghost use Rattle.steps.specs.Versions.{versions_in, opened_versions};
+ghost use Rattle.steps.specs.inside.RecordEdits.{opened_with, with_opened};
+ghost use Rattle.steps.specs.Openings.{IsOpened};
+ghost use Rattle.steps.specs.Refusals.{Answers, refused_unless};
 ghost use Rattle.steps.specs.declared.errors.OpenError.TheVariants as refused;
 
 use crate::calls::OpenCall;
@@ -50,26 +50,15 @@ fn fill<A: Allocator + Clone>(store: &mut Store<A>, entries: &[Entry<A>]) -> Res
     Ok(())
 }
 
-/// A place for each session's call, all free.
-fn free_places<A: Allocator>(alloc: A) -> Result<Vec<Option<OpenCall<A>>, A>, NoMemory>
-    ensures { IfOk result (λ places. places.items ≡ replicate SESSIONS None) }
+/// Nothing for each session.
+fn none_for_each<T, A: Allocator>(alloc: A) -> Result<Vec<Option<T>, A>, NoMemory>
+    ensures { IfOk result (λ items. items.items ≡ replicate SESSIONS None) }
 {
-    let mut places = Vec::with_capacity(alloc, usize::from(SESSIONS))?;
+    let mut items = Vec::with_capacity(alloc, usize::from(SESSIONS))?;
     for _session in 0..SESSIONS {
-        places.push_reserved(None);
+        items.push_reserved(None);
     }
-    Ok(places)
-}
-
-/// No number yet for each session.
-fn no_numbers<A: Allocator>(alloc: A) -> Result<Vec<Option<u64>, A>, NoMemory>
-    ensures { IfOk result (λ numbers. numbers.items ≡ replicate SESSIONS None) }
-{
-    let mut numbers = Vec::with_capacity(alloc, usize::from(SESSIONS))?;
-    for _session in 0..SESSIONS {
-        numbers.push_reserved(None);
-    }
-    Ok(numbers)
+    Ok(items)
 }
 
 /// What a core has at its start beside its catalog and its opening.
@@ -101,8 +90,8 @@ fn free_sessions<A: Allocator + Copy>(alloc: A) -> Result<(Calls<A>, Numbers<A>)
     ensures calls { IfOk result (λ s. s.0.items ≡ replicate SESSIONS None) }
     ensures last { IfOk result (λ s. s.1.items ≡ replicate SESSIONS None) }
 {
-    let calls = free_places(alloc)?;
-    let last = no_numbers(alloc)?;
+    let calls = none_for_each(alloc)?;
+    let last = none_for_each(alloc)?;
     Ok((calls, last))
 }
 
@@ -185,7 +174,7 @@ impl<A: Allocator + Copy> Core<A> {
     /// the image; with a refusal they are given up.
     pub fn open(alloc: A, catalog: Catalog<A>, opening: Image<A>) -> Result<Self, OpenError>
         ensures opened { IfOk result (λ c. IsOpened catalog opening c) }
-        ensures refusal { Answers (unless (is_opening opening) refused.NotAnOpening) refused.NoMemory result }
+        ensures refusal { Answers (refused_unless (is_opening opening) refused.NotAnOpening) refused.NoMemory result }
     {
         if !opening.is_opening() {
             return Err(OpenError::NotAnOpening);

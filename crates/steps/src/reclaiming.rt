@@ -5,9 +5,9 @@ ghost use Rattle.std.specs.Option.{option_map};
 ghost use Rattle.procedure.specs.Bytes.{Bytes};
 ghost use Rattle.locktable.specs.Locks.{IsFree, Locks};
 ghost use Rattle.record_store.specs.ChangedSets.{has};
-ghost use Rattle.record_store.specs.Stores.{IsLeastCandidate, IsOnce, key_at};
-ghost use Rattle.steps.specs.Asides.{AsideIn, IsKnown, after_release, aside_at, put_aside};
-ghost use Rattle.steps.specs.Edits.{versions_in};
+ghost use Rattle.record_store.specs.Stores.{IsLeastCandidate, HasKeysOnce, key_at};
+ghost use Rattle.steps.specs.inside.SetAside.{AsideIn, IsKnown, after_release, aside_at, put_aside};
+ghost use Rattle.steps.specs.Versions.{versions_in};
 ghost use Rattle.steps.specs.Reclaiming.{IsReclaimable, Reclaims};
 
 use crate::captures::key_in;
@@ -74,7 +74,7 @@ fn learn<A: Allocator>(store: &mut Store<A>, aside: &mut Aside)
 fn least_of<A: Allocator>(store: &Store<A>) -> Option<(usize, Key)>
     ensures least { IsLeastCandidate store.now (option_map (λ r. r.0) result) }
     ensures key { IfSome result (λ r. key_at store.now r.0 ≡ Some r.1) }
-    ensures once { IsOnce store.now }
+    ensures once { HasKeysOnce store.now }
 {
     let slot = store.least_candidate()?;
     let key = key_in(store, slot)?;
@@ -127,7 +127,7 @@ fn next_to_go<A: Allocator>(
     ensures slots { length store.new ≡ length store.old }
     ensures keys { (slot : ℕ) → key_at store.new slot ≡ key_at store.old slot }
     ensures versions { (q : Bytes) → versions_in store.new q ≡ versions_in store.old q }
-    ensures once { IsOnce store.new }
+    ensures once { HasKeysOnce store.new }
     ensures least { IsLeastCandidate store.new (option_map (λ r. r.0) result) }
     ensures key { IfSome result (λ r. key_at store.new r.0 ≡ Some r.1) }
     ensures uncollected { IfSome result (λ r. has changed.now.collecting r.1 ≡ false) }

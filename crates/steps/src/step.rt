@@ -4,27 +4,25 @@ ghost use Rattle.std.specs.Prelude.{◌≡◌, ◌<◌, Err, IfOk, None, OnErr, 
 ghost use Rattle.procedure.specs.Needs.{accessed, becomes_of};
 ghost use Rattle.procedure.specs.Runs.{ended, is_nil, next_need};
 ghost use Rattle.procedure.specs.declared.limits.TheConstants.{INSTRUCTIONS, SESSIONS};
-ghost use Rattle.steps.specs.Advances.{Advances, SameOpen, becomes_in, lacks_place, touch_by, touch_in};
+ghost use Rattle.steps.specs.inside.Instructions.{Advances, SameOpen, becomes_in, lacks_place, touch_by, touch_in};
 ghost use Rattle.steps.specs.CoreViews.{OfOpen, Steps, front_of, one_more, stepped_as};
-ghost use Rattle.steps.specs.Edits.{versions_in};
-ghost use Rattle.steps.specs.Locked.{AnswersTo, IsExcluded, SameLocks, held_of, held_so, locked, short};
+ghost use Rattle.steps.specs.Versions.{versions_in};
+ghost use Rattle.steps.specs.inside.InstructionLocks.{AnswersTo, IsExcluded, SameLocks, mode_of_touch, held_so, locked, short};
 ghost use Rattle.locktable.specs.Modes.{IsAtMost};
 ghost use Rattle.steps.specs.Refusals.{Answers, makes_record, step_refusal};
 ghost use Rattle.steps.specs.declared.errors.StepError.TheVariants as refused;
 
-use crate::calls::OpenCall;
+use crate::calls::{OpenCall, outcome_of, taken};
 use crate::cores::Core;
 use crate::edits::has_record;
 use crate::errors::StepError;
-use crate::finish::outcome_of;
-use crate::give_up::taken;
 use crate::instructions::run;
 use crate::locking::{lock, unlock};
 use locktable::{LockError, LockTable, Mode};
 use phase::Phase;
 use procedure::{Access, Machine, Need, NoMemory, Update};
 use record_store::Store;
-use record_store::limits::RECORDS;
+use record_store::limits::STORE_RECORDS;
 use std::alloc::Allocator;
 
 /// How a step is answered that executed an instruction.
@@ -72,7 +70,7 @@ fn lacks_place<A: Allocator + Clone>(
     requires { access.now ≡ accessed (next_need machine.now.args machine.now.progress) }
     ensures { result ≡ lacks_place store.now machine.now }
 {
-    store.len() >= RECORDS && makes_record(store, machine, access)
+    store.len() >= STORE_RECORDS && makes_record(store, machine, access)
 }
 
 /// The refusal of a write for which the memory or the place is wanting.
@@ -125,7 +123,7 @@ fn run_granted<A: Allocator + Clone>(
     requires session { session < SESSIONS }
     requires access { access.now ≡ accessed (next_need call.old.machine.args call.old.machine.progress) }
     requires few { call.old.executed < INSTRUCTIONS }
-    requires weaker { IsAtMost before (held_of locks.old session (touch_by access.now)) }
+    requires weaker { IsAtMost before (mode_of_touch locks.old session (touch_by access.now)) }
     ensures ok { OnOk result (Advances phase store.old call.old store.new call.new) }
     ensures granted { OnOk result (locks.new ≡ locks.old) }
     ensures place { OnOk result (full ≡ false) }
@@ -181,7 +179,7 @@ fn readiness<A: Allocator>(machine: &Machine<A>) -> Stepped
 }
 
 /// Executes the next instruction of a call, if it has one.
-fn advance<A: Allocator + Clone>(
+fn execute_next<A: Allocator + Clone>(
     store: &mut Store<A>,
     locks: &mut LockTable<A>,
     session: usize,
@@ -219,7 +217,13 @@ impl<A: Allocator + Clone> Core<A> {
         let phase = self.phase;
         match taken(&mut self.calls, index) {
             Some(mut call) => {
-                let answer = advance(&mut self.store, &mut self.locks, index, &mut call, phase);
+                let answer = execute_next(
+                    &mut self.store,
+                    &mut self.locks,
+                    index,
+                    &mut call,
+                    phase,
+                );
                 self.calls[index] = Some(call);
                 answer
             }

@@ -2,8 +2,7 @@
 
 ghost use Rattle.std.specs.Prelude.{◌≡◌, option_map};
 ghost use Rattle.record_store.specs.Stores.{record_at};
-ghost use Rattle.steps.specs.Edits.{versions_in};
-ghost use Rattle.steps.specs.Versions.{lent_versions, versions_at};
+ghost use Rattle.steps.specs.Versions.{versions_in, lent_versions, versions_at};
 
 use crate::cores::Core;
 use procedure::{Key, Value};

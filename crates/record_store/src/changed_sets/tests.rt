@@ -32,19 +32,34 @@ fn rejoin(changed: &mut Changed<Global>) -> Result<(), Fail> {
     Ok(())
 }
 
+/// Keys join and are frozen: how many are frozen, at how many places the one that is wanted stands, and
+/// whether there is none behind them.
+fn frozen_as(
+    changed: &mut Changed<Global>,
+    joined: &[&[u8]],
+    frozen: &[&[u8]],
+) -> Result<(usize, usize, bool), Fail> {
+    for bytes in joined {
+        join(changed, bytes)?;
+    }
+    changed.freeze();
+    let mut places = 0usize;
+    for (index, bytes) in frozen.iter().enumerate() {
+        if changed.frozen_key(index) == Some(key(bytes)?) {
+            places = places.saturating_add(1);
+        }
+    }
+    let ends = changed.frozen_key(frozen.len()).is_none();
+    Ok((changed.frozen_count(), places, ends))
+}
+
 #[test]
 fn frozen_in_byte_order(rt: HostRuntime) -> Result<(), Fail> {
     for (joined, frozen) in ORDERS {
         let mut changed = Changed::new(rt.alloc());
-        for bytes in joined {
-            join(&mut changed, bytes)?;
-        }
-        changed.freeze();
-        assert_eq!(rt; changed.frozen_count(), frozen.len());
-        for (index, bytes) in frozen.iter().enumerate() {
-            assert_eq!(rt; changed.frozen_key(index), Some(key(bytes)?));
-        }
-        assert_eq!(rt; changed.frozen_key(frozen.len()), None);
+        let found = frozen_as(&mut changed, joined, frozen);
+        drop(changed);
+        assert_eq!(rt; found?, (frozen.len(), frozen.len(), true));
     }
     Ok(())
 }
@@ -66,60 +81,88 @@ fn seen(changed: &Changed<Global>) -> Result<[[bool; 3]; 2], Fail> {
     ])
 }
 
+/// What two checkpoints show, the second begun while the first runs: before them, in the first, once two keys
+/// were written beside it, and behind it.
+fn shown_by_two(changed: &mut Changed<Global>) -> Result<[[[bool; 3]; 2]; 4], Fail> {
+    let before = seen(changed)?;
+    join(changed, b"b")?;
+    join(changed, b"a")?;
+    changed.freeze();
+    let frozen = seen(changed)?;
+    join(changed, b"b")?;
+    join(changed, b"c")?;
+    let beside = seen(changed)?;
+    changed.clear_frozen();
+    Ok([before, frozen, beside, seen(changed)?])
+}
+
 #[test]
 fn two_checkpoints(rt: HostRuntime) -> Result<(), Fail> {
     let mut changed = Changed::new(rt.alloc());
-    assert_eq!(rt; seen(&changed)?, [[false; 3]; 2]);
-    join(&mut changed, b"b")?;
-    join(&mut changed, b"a")?;
-    changed.freeze();
-    assert_eq!(rt; seen(&changed)?, [[false; 3], [true, true, false]]);
-    join(&mut changed, b"b")?;
-    join(&mut changed, b"c")?;
-    assert_eq!(rt; seen(&changed)?, [[false, true, true], [true, true, false]]);
-    changed.clear_frozen();
-    assert_eq!(rt; seen(&changed)?, [[false, true, true], [false; 3]]);
+    let shown = shown_by_two(&mut changed);
+    drop(changed);
+    let wanted = [
+        [[false; 3]; 2],
+        [[false; 3], [true, true, false]],
+        [[false, true, true], [true, true, false]],
+        [[false, true, true], [false; 3]],
+    ];
+    assert_eq!(rt; shown?, wanted);
     Ok(())
+}
+
+/// What is seen, and how many keys are frozen, once frozen keys joined again, and after the second of two
+/// more freezes, which finds no key.
+fn shown_again(
+    changed: &mut Changed<Global>,
+) -> Result<([[bool; 3]; 2], usize, [[bool; 3]; 2]), Fail> {
+    join(changed, b"b")?;
+    join(changed, b"a")?;
+    changed.freeze();
+    join(changed, b"c")?;
+    join(changed, b"b")?;
+    rejoin(changed)?;
+    let again = seen(changed)?;
+    let count = changed.frozen_count();
+    changed.freeze();
+    changed.freeze();
+    Ok((again, count, seen(changed)?))
 }
 
 #[test]
 fn frozen_are_collected_again(rt: HostRuntime) -> Result<(), Fail> {
     let mut changed = Changed::new(rt.alloc());
-    join(&mut changed, b"b")?;
-    join(&mut changed, b"a")?;
-    changed.freeze();
-    join(&mut changed, b"c")?;
-    join(&mut changed, b"b")?;
-    rejoin(&mut changed)?;
-    assert_eq!(rt; seen(&changed)?, [[true; 3], [false; 3]]);
-    assert_eq!(rt; changed.frozen_count(), 0);
-    changed.freeze();
-    changed.freeze();
-    assert_eq!(rt; seen(&changed)?, [[false; 3]; 2], "the second found no key");
+    let shown = shown_again(&mut changed);
+    drop(changed);
+    assert_eq!(rt; shown?, ([[true; 3], [false; 3]], 0, [[false; 3]; 2]));
     Ok(())
+}
+
+/// The room at first, when it is made, after a key joined, after it joined once more, after growths that are
+/// refused, and after a freeze; and whether 1 more than can be counted was refused, and more than memory.
+fn rooms(changed: &mut Changed<Global>) -> Result<([usize; 6], [bool; 2]), Fail> {
+    let first = changed.room();
+    changed.make_room(3)?;
+    let made = changed.room();
+    changed.join(key(b"a")?);
+    let joined = changed.room();
+    join(changed, b"a")?;
+    let kept = changed.room();
+    let refused = [
+        changed.make_room(usize::MAX).is_err(),
+        changed.make_room(usize::MAX - 1).is_err(),
+    ];
+    let behind = changed.room();
+    changed.freeze();
+    Ok(([first, made, joined, kept, behind, changed.room()], refused))
 }
 
 #[test]
 fn room_is_counted(rt: HostRuntime) -> Result<(), Fail> {
     let mut changed = Changed::new(rt.alloc());
-    assert_eq!(rt; changed.room(), 0);
-    changed.make_room(3)?;
-    assert_eq!(rt; changed.room(), 3);
-    changed.join(key(b"a")?);
-    assert_eq!(rt; changed.room(), 2);
-    join(&mut changed, b"a")?;
-    assert_eq!(rt; changed.room(), 2, "it is kept, and the key is there");
-    assert!(rt;
-        changed.make_room(usize::MAX).is_err(),
-        "1 more than can be counted"
-    );
-    assert!(rt;
-        changed.make_room(usize::MAX - 1).is_err(),
-        "more than memory"
-    );
-    assert_eq!(rt; changed.room(), 2);
-    changed.freeze();
-    assert_eq!(rt; changed.room(), 3);
+    let found = rooms(&mut changed);
+    drop(changed);
+    assert_eq!(rt; found?, ([0, 3, 2, 2, 2, 3], [true; 2]));
     Ok(())
 }
 

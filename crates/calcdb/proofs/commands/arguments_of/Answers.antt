@@ -11,7 +11,8 @@ use Rattle.calcdb.proofs.commands.arguments_of.Goals as goal
 pub returns-in_err-value_of : goal.returns-in_err-value_of
 returns-in_err-value_of g c =
     let l = c.loop-word in
-    handed_on (λ a. a) c.from_residual-in_err-value_of.result c.in_err-value_of.field-0.0 (value_of c.in-Some.word.now) (spec.values_of (words c.args.line.now)) c.from_residual-in_err-value_of.ensures.1 c.in_err-value_of.ensures
+    handed_on (λ a. a) c.from_residual-in_err-value_of.result c.in_err-value_of.field-0.0 (value_of c.in-Some.word.now) (spec.values_of (words c.args.line.now))
+    c.from_residual-in_err-value_of.ensures.1 c.in_err-value_of.ensures
     (λ none. sym l.invariant ∙ no_value (map (λ v. v.items) l.values.items) (words l.rest.now) (words c.in-Some.behind.now) c.in-Some.word.now c.in-Some.ensures.words none)
 
 pub loop-word-preserved : goal.loop-word-preserved

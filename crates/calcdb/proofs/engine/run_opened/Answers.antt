@@ -17,7 +17,8 @@ returns-in-Ok-clause-ok g c =
     IfOk-weaker c.run_on.result _ _
     (λ r h.
     let images : Images = r.images.items in
-    subst (λ (x : Script). (first : CoreView) × (text : Bytes) × IsOpened x.catalog c.args.opening first × Carried {A = g.row.A.Denot} (CarriesAll x.catalog x.commands) first r.core text images × Appends (g.W.Write.contents c.args.writer.now) (g.W.Write.contents c.run_on.new.writer) text) c.script.view_is
+    subst (λ (x : Script). (first : CoreView) × (text : Bytes) × IsOpened x.catalog c.args.opening first × Carried {A = g.row.A.Denot} (CarriesAll x.catalog x.commands) first r.core text images ×
+    Appends (g.W.Write.contents c.args.writer.now) (g.W.Write.contents c.run_on.new.writer) text) c.script.view_is
     (core, h.0, c.in-Ok.ensures.opened, carried_script s c.args.opening core r.core c.into_vec.result.items h.0 images c.in-Ok.ensures.opened c.into_vec.ensures h.1, h.2))
     c.run_on.ensures.ok
 

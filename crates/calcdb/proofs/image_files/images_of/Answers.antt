@@ -12,7 +12,8 @@ returns-in_err-read_image-clause-err g c =
     let others = map (λ f. f.items) (drop (l.file-index + 1) c.args.files.now) in
     let p = err_from_is_err_and c.from_residual.result c.from_residual.ensures.1 in
     let front = ap (map (λ f. f.items)) (next_is c.args.files.now l.file-index c.file-item.result c.loop-file-test.true c.file-item.is) ∙ ap (λ b. b ∷ others) (sym c.as_slice.ensures.value) in
-    rw (p.1, p.2) (stops files (map (λ f. f.items) (drop l.file-index c.args.files.now)) c.as_slice.result.now others l.images.items c.in_err-read_image.field-0.0 front l.invariant c.in_err-read_image.ensures.answer)
+    rw (p.1, p.2) (stops files (map (λ f. f.items) (drop l.file-index c.args.files.now)) c.as_slice.result.now others l.images.items c.in_err-read_image.field-0.0 front l.invariant
+    c.in_err-read_image.ensures.answer)
 
 pub returns-in_err-read_image-clause-only : goal.returns-in_err-read_image-clause-only
 returns-in_err-read_image-clause-only g c = λ says h.
@@ -21,7 +22,8 @@ returns-in_err-read_image-clause-only g c = λ says h.
     let others = map (λ f. f.items) (drop (l.file-index + 1) c.args.files.now) in
     let p = err_from_is_err_and c.from_residual.result c.from_residual.ensures.1 in
     let front = ap (map (λ f. f.items)) (next_is c.args.files.now l.file-index c.file-item.result c.loop-file-test.true c.file-item.is) ∙ ap (λ b. b ∷ others) (sym c.as_slice.ensures.value) in
-    rw (p.1, p.2) (stops_only files (map (λ f. f.items) (drop l.file-index c.args.files.now)) c.as_slice.result.now others l.images.items c.in_err-read_image.field-0.0 front l.invariant c.in_err-read_image.ensures.exact says h)
+    rw (p.1, p.2) (stops_only files (map (λ f. f.items) (drop l.file-index c.args.files.now)) c.as_slice.result.now others l.images.items c.in_err-read_image.field-0.0 front l.invariant
+    c.in_err-read_image.ensures.exact says h)
 
 pub loop-file-preserved : goal.loop-file-preserved
 loop-file-preserved g c =

@@ -1,6 +1,6 @@
 use Rattle.std.proofs.Common.{◌≡◌, map, inl, refl}
 use Rattle.procedure.specs.Bytes.{Bytes}
-use Rattle.calcdb.specs.Merging.{IsFault, IsHeader}
+use Rattle.calcdb.specs.Merging.{IsMergeFault, IsMergeHeader}
 use Rattle.calcdb.specs.Output.{header_line}
 use Rattle.calcdb.specs.Refusing.{no_memory}
 use Rattle.calcdb.specs.declared.faults.Fault.TheVariants as fault
@@ -10,7 +10,7 @@ use Rattle.calcdb.proofs.merge_files.merge_files.Goals as goal
 pub returns-in-Err-clause-fault : goal.returns-in-Err-clause-fault
 returns-in-Err-clause-fault g c =
     let files = map (λ f. f.items) c.args.images.now in
-    declined (IsFault files) (IsHeader files) (g.W.Write.contents c.args.writer.now) (g.W.Write.contents c.refuse.new.writer) (fault.Refused c.in-Err.reason) c.refuse.result
+    declined (IsMergeFault files) (IsMergeHeader files) (g.W.Write.contents c.args.writer.now) (g.W.Write.contents c.refuse.new.writer) (fault.Refused c.in-Err.reason) c.refuse.result
     tt c.in-Err.ensures.err (inl refl) c.refuse.ensures
 
 pub returns-in-Err-clause-only_fault : goal.returns-in-Err-clause-only_fault
@@ -25,5 +25,5 @@ pub returns-in-Err-write_header-clause-fault : goal.returns-in-Err-write_header-
 returns-in-Err-write_header-clause-fault g c =
     let files = map (λ f. f.items) c.args.images.now in
     let image = c.in-Ok.image in
-    fails_wider (λ f. f ≡ no_memory) (IsFault files) (λ (text : Bytes). text ≡ header_line image) (IsHeader files) (λ f is. rw is (inl refl)) (λ text is. (image, c.in-Ok.ensures.ok, is))
+    fails_wider (λ f. f ≡ no_memory) (IsMergeFault files) (λ (text : Bytes). text ≡ header_line image) (IsMergeHeader files) (λ f is. rw is (inl refl)) (λ text is. (image, c.in-Ok.ensures.ok, is))
     (g.W.Write.contents c.args.writer.now) (g.W.Write.contents c.write_header.new.writer) c.in-Err-write_header.fault c.in-Err-write_header.ensures.err

@@ -1,6 +1,6 @@
 use Rattle.std.proofs.Common.{refl, sym, ◌∙◌, subst, ap}
 use Rattle.std.proofs.lemmas.Result.{IfErr-weaker, IfOk-weaker}
-use Rattle.calcdb.specs.Pairs.{EndsAs, IsFault, IsHeader, image_of}
+use Rattle.calcdb.specs.Pairs.{EndsLoad, IsLoadFault, IsLoadHeader, image_of_pairs}
 use Rattle.calcdb.specs.Refusing.{no_memory}
 use Rattle.calcdb.proofs.Declined.{declined}
 use Rattle.calcdb.proofs.Loading.{same_image}
@@ -8,16 +8,16 @@ use Rattle.calcdb.proofs.pairs.load.Goals as goal
 
 pub returns-in-Err-NoMemory-clause-fault : goal.returns-in-Err-NoMemory-clause-fault
 returns-in-Err-NoMemory-clause-fault g c = λ source known.
-    let says = image_of source in
-    declined (IsFault says) (IsHeader says) (g.W.Write.contents c.args.writer.now) (g.W.Write.contents c.refuse.new.writer) no_memory c.refuse.result
+    let says = image_of_pairs source in
+    declined (IsLoadFault says) (IsLoadHeader says) (g.W.Write.contents c.args.writer.now) (g.W.Write.contents c.refuse.new.writer) no_memory c.refuse.result
     tt refl refl c.refuse.ensures
 
 pub returns-clause-image : goal.returns-clause-image
 returns-clause-image g c =
     IfOk-weaker c.load_text.result _ _
     (λ i h source known.
-    let same = same_image (g.R.Read.remaining c.args.reader.now) (g.R.Read.remaining c.read_text.new.reader) source c.in-Ok.text.items known c.in-Ok.ensures.read c.in-Ok.ensures.end in
-    (same ∙ sym (ap image_of c.as_slice.ensures.value) ∙ h.0, h.1))
+    let same = same_image (g.R.Read.remaining c.args.reader.now) (g.R.Read.remaining c.read_past.new.reader) source c.in-Ok.text.items known c.in-Ok.ensures.read c.in-Ok.ensures.end in
+    (same ∙ sym (ap image_of_pairs c.as_slice.ensures.value) ∙ h.0, h.1))
     c.load_text.ensures.ok
 
 pub returns-clause-fault : goal.returns-clause-fault
@@ -26,6 +26,6 @@ returns-clause-fault g c =
     let new = g.W.Write.contents c.load_text.new.writer in
     IfErr-weaker c.load_text.result _ _
     (λ f h source known.
-    let same = same_image (g.R.Read.remaining c.args.reader.now) (g.R.Read.remaining c.read_text.new.reader) source c.in-Ok.text.items known c.in-Ok.ensures.read c.in-Ok.ensures.end in
-    subst (λ says. EndsAs says old new f) (ap image_of c.as_slice.ensures.value ∙ sym same) h)
+    let same = same_image (g.R.Read.remaining c.args.reader.now) (g.R.Read.remaining c.read_past.new.reader) source c.in-Ok.text.items known c.in-Ok.ensures.read c.in-Ok.ensures.end in
+    subst (λ says. EndsLoad says old new f) (ap image_of_pairs c.as_slice.ensures.value ∙ sym same) h)
     c.load_text.ensures.err

@@ -2,19 +2,19 @@ use Rattle.std.proofs.Common.{◌≡◌, refl}
 use Rattle.procedure.specs.Bytes.{Bytes}
 use Rattle.calcdb.proofs.Declined.{declined, fails_wider}
 use Rattle.calcdb.specs.Output.{header_line}
-use Rattle.calcdb.specs.Pairs.{IsFault, IsHeader, image_of}
+use Rattle.calcdb.specs.Pairs.{IsLoadFault, IsLoadHeader, image_of_pairs}
 use Rattle.calcdb.specs.Refusing.{no_memory}
 use Rattle.calcdb.proofs.pairs.load_text.Goals as goal
 
 pub returns-in-Err-write_header-clause-err : goal.returns-in-Err-write_header-clause-err
 returns-in-Err-write_header-clause-err g c =
-    let says = image_of c.args.text.now in
+    let says = image_of_pairs c.args.text.now in
     let image = c.in-Ok.image in
-    fails_wider (λ f. f ≡ no_memory) (IsFault says) (λ (text : Bytes). text ≡ header_line image) (IsHeader says) (λ f is. rw is refl) (λ text is. (image, c.in-Ok.ensures, is))
+    fails_wider (λ f. f ≡ no_memory) (IsLoadFault says) (λ (text : Bytes). text ≡ header_line image) (IsLoadHeader says) (λ f is. rw is refl) (λ text is. (image, c.in-Ok.ensures, is))
     (g.W.Write.contents c.args.writer.now) (g.W.Write.contents c.write_header.new.writer) c.in-Err-write_header.fault c.in-Err-write_header.ensures.err
 
 pub returns-in-Err-clause-err : goal.returns-in-Err-clause-err
 returns-in-Err-clause-err g c =
-    let says = image_of c.args.text.now in
-    declined (IsFault says) (IsHeader says) (g.W.Write.contents c.args.writer.now) (g.W.Write.contents c.refuse.new.writer) c.fault_of_text.result c.refuse.result
+    let says = image_of_pairs c.args.text.now in
+    declined (IsLoadFault says) (IsLoadHeader says) (g.W.Write.contents c.args.writer.now) (g.W.Write.contents c.refuse.new.writer) c.fault_of_text.result c.refuse.result
     c.fault_of_text.ensures.has_line (c.fault_of_text.ensures.fault says c.in-Err.ensures) refl c.refuse.ensures

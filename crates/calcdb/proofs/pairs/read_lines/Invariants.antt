@@ -8,7 +8,7 @@ use Rattle.calcdb.proofs.pairs.read_lines.Given as goal
 -- the lines that are left make of the table what all of them make of none; each line has a byte, but the last
 abbrev pub invariant-loop-rest : goal.invariant-loop-rest
 invariant-loop-rest g l = record {
-  says : spec.table_after l.table l.number (left_lines (option_map (λ t. t.now) l.rest)) ≡ spec.table_after map.empty 1 (lines l.text);
+  says : spec.table_after_lines l.table l.number (left_lines (option_map (λ t. t.now) l.rest)) ≡ spec.table_after_lines map.empty 1 (lines l.text);
   count : l.number + size (option_map (λ t. t.now) l.rest) ≤ length l.text + 2;
 }
 

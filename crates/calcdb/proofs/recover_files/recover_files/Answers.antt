@@ -14,11 +14,13 @@ returns-in-Ok-clause-fault g c =
 
 pub returns-in-Ok-clause-only : goal.returns-in-Ok-clause-only
 returns-in-Ok-clause-only g c = λ says told.
-    finished_agrees says (g.W.Write.contents c.args.writer.now) (g.W.Write.contents c.finish.new.writer) c.in-Ok.recovered c.finish.result c.finish.ensures.ok c.finish.ensures.err (c.in-Ok.ensures.only says told)
+    finished_agrees says (g.W.Write.contents c.args.writer.now) (g.W.Write.contents c.finish.new.writer) c.in-Ok.recovered c.finish.result c.finish.ensures.ok c.finish.ensures.err
+    (c.in-Ok.ensures.only says told)
 
 pub returns-in-Err-clause-fault : goal.returns-in-Err-clause-fault
 returns-in-Err-clause-fault g c =
-    fault_declined c.args.script.now c.args.log.now (map (λ f. f.items) c.args.images.now) (g.W.Write.contents c.args.writer.now) (g.W.Write.contents c.refuse.new.writer) c.in-Err.fault c.refuse.result
+    fault_declined c.args.script.now c.args.log.now (map (λ f. f.items) c.args.images.now) (g.W.Write.contents c.args.writer.now) (g.W.Write.contents c.refuse.new.writer) c.in-Err.fault
+    c.refuse.result
     c.in-Err.ensures.err c.refuse.ensures
 
 pub returns-in-Ok-clause-opening : goal.returns-in-Ok-clause-opening

@@ -6,11 +6,13 @@ use Rattle.calcdb.proofs.recover_files.recover_from.Goals as goal
 pub returns-in_err-recover_with-clause-only : goal.returns-in_err-recover_with-clause-only
 returns-in_err-recover_with-clause-only g c = λ says told.
     let p = err_from_is_err_and c.from_residual-in_err-recover_with.result c.from_residual-in_err-recover_with.ensures.1 in
-    rw (p.1, p.2) (only_by_script c.args.script.now c.args.log.now (map (λ f. f.items) c.args.files.now) c.in_ok-catalog.catalog (Err c.in_err-recover_with.field-0.0) c.in_ok-catalog.ensures.value c.in_err-recover_with.ensures.only says told)
+    rw (p.1, p.2) (only_by_script c.args.script.now c.args.log.now (map (λ f. f.items) c.args.files.now) c.in_ok-catalog.catalog (Err c.in_err-recover_with.field-0.0) c.in_ok-catalog.ensures.value
+    c.in_err-recover_with.ensures.only says told)
 
 pub returns-clause-only : goal.returns-clause-only
 returns-clause-only g c = λ says told.
-    only_by_script c.args.script.now c.args.log.now (map (λ f. f.items) c.args.files.now) c.in_ok-catalog.catalog (Ok c.in_ok-recover_with.field-0) c.in_ok-catalog.ensures.value c.in_ok-recover_with.ensures.only says told
+    only_by_script c.args.script.now c.args.log.now (map (λ f. f.items) c.args.files.now) c.in_ok-catalog.catalog (Ok c.in_ok-recover_with.field-0) c.in_ok-catalog.ensures.value
+    c.in_ok-recover_with.ensures.only says told
 
 pub returns-in_err-catalog-clause-spelled : goal.returns-in_err-catalog-clause-spelled
 returns-in_err-catalog-clause-spelled g c =
@@ -20,8 +22,10 @@ returns-in_err-catalog-clause-spelled g c =
 pub returns-in_err-recover_with-clause-spelled : goal.returns-in_err-recover_with-clause-spelled
 returns-in_err-recover_with-clause-spelled g c =
     let p = err_from_is_err_and c.from_residual-in_err-recover_with.result c.from_residual-in_err-recover_with.ensures.1 in
-    rw (p.1, p.2) (scripted c.args.script.now c.args.log.now (map (λ f. f.items) c.args.files.now) c.in_ok-catalog.catalog (Err c.in_err-recover_with.field-0.0) c.in_ok-catalog.ensures.value c.in_err-recover_with.ensures.spelled)
+    rw (p.1, p.2) (scripted c.args.script.now c.args.log.now (map (λ f. f.items) c.args.files.now) c.in_ok-catalog.catalog (Err c.in_err-recover_with.field-0.0) c.in_ok-catalog.ensures.value
+    c.in_err-recover_with.ensures.spelled)
 
 pub returns-clause-spelled : goal.returns-clause-spelled
 returns-clause-spelled g c =
-    scripted c.args.script.now c.args.log.now (map (λ f. f.items) c.args.files.now) c.in_ok-catalog.catalog (Ok c.in_ok-recover_with.field-0) c.in_ok-catalog.ensures.value c.in_ok-recover_with.ensures.spelled
+    scripted c.args.script.now c.args.log.now (map (λ f. f.items) c.args.files.now) c.in_ok-catalog.catalog (Ok c.in_ok-recover_with.field-0) c.in_ok-catalog.ensures.value
+    c.in_ok-recover_with.ensures.spelled

@@ -12,11 +12,13 @@ returns-in_err-images-clause-err g c =
 pub returns-in_err-recover-clause-err : goal.returns-in_err-recover-clause-err
 returns-in_err-recover-clause-err g c =
     let p = err_from_is_err_and c.from_residual-in_err-recover.result c.from_residual-in_err-recover.ensures.1 in
-    rw (p.1, p.2) (recovery_refused c.args.catalog.now c.args.log.now (map (λ f. f.items) c.args.files.now) c.as_slice.result.now c.in_err-recover.field-0.0 (rw c.as_slice.ensures.value c.in_ok-images.ensures.ok) c.in_err-recover.ensures.answer)
+    rw (p.1, p.2) (recovery_refused c.args.catalog.now c.args.log.now (map (λ f. f.items) c.args.files.now) c.as_slice.result.now c.in_err-recover.field-0.0
+    (rw c.as_slice.ensures.value c.in_ok-images.ensures.ok) c.in_err-recover.ensures.answer)
 
 pub returns-clause-ok : goal.returns-clause-ok
 returns-clause-ok g c =
-    recovered c.args.catalog.now c.args.log.now (map (λ f. f.items) c.args.files.now) c.as_slice.result.now c.in_ok-recover.field-0 (rw c.as_slice.ensures.value c.in_ok-images.ensures.ok) c.in_ok-recover.ensures.answer
+    recovered c.args.catalog.now c.args.log.now (map (λ f. f.items) c.args.files.now) c.as_slice.result.now c.in_ok-recover.field-0 (rw c.as_slice.ensures.value c.in_ok-images.ensures.ok)
+    c.in_ok-recover.ensures.answer
 
 pub returns-clause-few : goal.returns-clause-few
 returns-clause-few g c =
@@ -24,7 +26,8 @@ returns-clause-few g c =
 
 pub returns-clause-only : goal.returns-clause-only
 returns-clause-only g c =
-    only_recovered c.args.catalog.now c.args.log.now (map (λ f. f.items) c.args.files.now) c.as_slice.result.now (Ok c.in_ok-recover.field-0) (rw c.as_slice.ensures.value c.in_ok-images.ensures.only) c.in_ok-recover.ensures.only
+    only_recovered c.args.catalog.now c.args.log.now (map (λ f. f.items) c.args.files.now) c.as_slice.result.now (Ok c.in_ok-recover.field-0) (rw c.as_slice.ensures.value c.in_ok-images.ensures.only)
+    c.in_ok-recover.ensures.only
 
 pub returns-in_err-images-clause-spelled : goal.returns-in_err-images-clause-spelled
 returns-in_err-images-clause-spelled g c =
@@ -34,8 +37,10 @@ returns-in_err-images-clause-spelled g c =
 pub returns-in_err-recover-clause-spelled : goal.returns-in_err-recover-clause-spelled
 returns-in_err-recover-clause-spelled g c =
     let p = err_from_is_err_and c.from_residual-in_err-recover.result c.from_residual-in_err-recover.ensures.1 in
-    rw (p.1, p.2) (spelled_recovered c.args.catalog.now c.args.log.now (map (λ f. f.items) c.args.files.now) c.as_slice.result.now (Err c.in_err-recover.field-0.0) (rw c.as_slice.ensures.value c.in_ok-images.ensures.only) c.in_err-recover.ensures.answer)
+    rw (p.1, p.2) (spelled_recovered c.args.catalog.now c.args.log.now (map (λ f. f.items) c.args.files.now) c.as_slice.result.now (Err c.in_err-recover.field-0.0)
+    (rw c.as_slice.ensures.value c.in_ok-images.ensures.only) c.in_err-recover.ensures.answer)
 
 pub returns-clause-spelled : goal.returns-clause-spelled
 returns-clause-spelled g c =
-    spelled_recovered c.args.catalog.now c.args.log.now (map (λ f. f.items) c.args.files.now) c.as_slice.result.now (Ok c.in_ok-recover.field-0) (rw c.as_slice.ensures.value c.in_ok-images.ensures.only) c.in_ok-recover.ensures.answer
+    spelled_recovered c.args.catalog.now c.args.log.now (map (λ f. f.items) c.args.files.now) c.as_slice.result.now (Ok c.in_ok-recover.field-0)
+    (rw c.as_slice.ensures.value c.in_ok-images.ensures.only) c.in_ok-recover.ensures.answer

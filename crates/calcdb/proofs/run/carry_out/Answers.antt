@@ -11,4 +11,5 @@ returns-in-Begin g c =
     let n = c.in-Begin.call in
     let old = c.args.core.now in
     subst (λ (x : Command (List Bytes)). Carried {A = g.row.A.Denot} (Carries old.catalog x) old c.handle.new.core (shown_text c.handle.result) (images_shown c.handle.result)) (sym c.in-Begin.is)
-    (one_begin old.catalog n (event.Begin n.session n.number n.procedure c.into_values.result) old c.handle.new.core (shown_text c.handle.result) (images_shown c.handle.result) (refl, refl, refl, c.into_values.ensures) c.handle.ensures)
+    (one_begin old.catalog n (event.Begin n.session n.number n.procedure c.into_values.result) old c.handle.new.core (shown_text c.handle.result) (images_shown c.handle.result)
+    (refl, refl, refl, c.into_values.ensures) c.handle.ensures)

@@ -20,7 +20,8 @@ returns-in-Ok-Ready g c =
     let k : suc n ≡ c.args.count - l.counter = omega (arith, c.loop-test.true) in
     l.invariant new text images
     (subst (λ m. Carried {A = g.row.A.Denot} (GoesOn m s) l.core new text images) k
-    (made_ready n s l.core c.step.new.self new c.step.result text images (record { stepped = h.stepped; ready = h.ready; refused = h.refused; refusal = h.refusal }) (c.in-Ok-Ready.is ∙ ap Ok c.in-Ok-Ready.field-0-is) c.end_call.ensures))
+    (made_ready n s l.core c.step.new.self new c.step.result text images (record { stepped = h.stepped; ready = h.ready; refused = h.refused; refusal = h.refusal })
+    (c.in-Ok-Ready.is ∙ ap Ok c.in-Ok-Ready.field-0-is) c.end_call.ensures))
 
 pub returns-in-Err : goal.returns-in-Err
 returns-in-Err g c =
@@ -34,7 +35,8 @@ returns-in-Err g c =
     let k : suc n ≡ c.args.count - l.counter = omega (arith, c.loop-test.true) in
     l.invariant new text []
     (subst (λ m. Carried {A = g.row.A.Denot} (GoesOn m s) l.core new text []) k
-    (step_refused n s l.core c.step.new.self new c.step.result c.in-Err.refused c.give_up-given_up.result (record { stepped = h.stepped; ready = h.ready; refused = h.refused; refusal = h.refusal }) c.in-Err.is
+    (step_refused n s l.core c.step.new.self new c.step.result c.in-Err.refused c.give_up-given_up.result (record { stepped = h.stepped; ready = h.ready; refused = h.refused; refusal = h.refusal })
+    c.in-Err.is
     (record { given_up = u.given_up; refused = u.refused; active = u.active })))
 
 pub loop-preserved : goal.loop-preserved
@@ -46,7 +48,8 @@ loop-preserved g c = λ new text images on.
     let k : suc n ≡ c.args.count - l.counter = omega (arith, c.loop-test.true) in
     l.invariant new text images
     (subst (λ m. Carried {A = g.row.A.Denot} (GoesOn m s) l.core new text images) k
-    (ran n s l.core c.step.new.self new c.step.result text images (record { stepped = h.stepped; ready = h.ready; refused = h.refused; refusal = h.refusal }) (c.in-Ok-Ran.is ∙ ap Ok c.in-Ok-Ran.field-0-is) on))
+    (ran n s l.core c.step.new.self new c.step.result text images (record { stepped = h.stepped; ready = h.ready; refused = h.refused; refusal = h.refusal })
+    (c.in-Ok-Ran.is ∙ ap Ok c.in-Ok-Ran.field-0-is) on))
 
 pub returns : goal.returns
 returns g c =

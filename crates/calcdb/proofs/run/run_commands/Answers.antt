@@ -35,7 +35,8 @@ loop-command-preserved g c =
       front = i.front ++ d ∷ [];
       text = i.text ++ a.0;
       parts = i.parts ∙ ap (λ (l : List (Command (List Bytes))). i.front ++ l) h.0 ∙ sym (append_assoc i.front (d ∷ []) left);
-      carried = subst (λ l. Carried {A = g.row.A.Denot} (CarriesAll first.catalog (i.front ++ d ∷ [])) first new (i.text ++ a.0) l) kept (carried_more first.catalog i.front d first core new i.text a.0 images a.1 i.carried this);
+      carried = subst (λ l. Carried {A = g.row.A.Denot} (CarriesAll first.catalog (i.front ++ d ∷ [])) first new (i.text ++ a.0) l) kept
+          (carried_more first.catalog i.front d first core new i.text a.0 images a.1 i.carried this);
       sent = Appends-trans (g.W.Write.contents c.args.writer.now) (g.W.Write.contents c.loop-command.writer) (g.W.Write.contents c.answer.new.writer) i.text a.0 i.sent a.3;
       catalog = catalog_kept (Carries core.catalog d) core new a.0 a.1 a.2 ∙ i.catalog;
       count = omega (arith, i.count, h.1, more);
@@ -71,5 +72,8 @@ returns-clause-ok g c =
     let i = c.loop-command.invariant in
     let images : Images = c.loop-command.images.items in
     let left : into_iter_items c.loop-command.command-iterator ≡ [] = nil_from_length (into_iter_items c.loop-command.command-iterator) (sym i.count ∙ c.in-None.ensures.steps.0) in
-    let all : c.args.commands.items ≡ i.front = i.parts ∙ ap (λ (l : List (Command (List Bytes))). i.front ++ l) left ∙ append-nil i.front in
-    (i.text, subst (λ (l : List (Command (List Bytes))). Carried {A = g.row.A.Denot} (CarriesAll c.args.core.now.catalog l) c.args.core.now c.loop-command.core i.text images) (sym all) i.carried, i.sent)
+    let all : c.args.commands.items ≡ i.front = i.parts ∙ ap (λ (l : List (Command (List Bytes))). i.front ++ l) left ∙ append-nil i.front in (
+      i.text,
+      subst (λ (l : List (Command (List Bytes))). Carried {A = g.row.A.Denot} (CarriesAll c.args.core.now.catalog l) c.args.core.now c.loop-command.core i.text images) (sym all) i.carried,
+      i.sent,
+    )

@@ -11,21 +11,24 @@ returns-in-Ok-clause-text g c =
     let e = c.in-Ok.log.ending in
     let text : Bytes = log_text c.as_slice.result.now e in
     let printed = ap (λ (rs : List Record). Ok (log_text rs e)) c.as_slice.ensures in
-    shown_text (PrintsLog c.args.bytes.now) (g.W.Write.contents c.args.writer.now) (g.W.Write.contents c.write_log.new.writer) c.write_log.result text (reading_of c.in-Ok.log, c.in-Ok.ensures.read, printed) c.write_log.ensures.ok
+    shown_text (PrintsLog c.args.bytes.now) (g.W.Write.contents c.args.writer.now) (g.W.Write.contents c.write_log.new.writer) c.write_log.result text
+    (reading_of c.in-Ok.log, c.in-Ok.ensures.read, printed) c.write_log.ensures.ok
 
 pub returns-in-Ok-clause-fault : goal.returns-in-Ok-clause-fault
 returns-in-Ok-clause-fault g c =
     let e = c.in-Ok.log.ending in
     let text : Bytes = log_text c.as_slice.result.now e in
     let printed = ap (λ (rs : List Record). Ok (log_text rs e)) c.as_slice.ensures in
-    shown_ends (PrintsLog c.args.bytes.now) (g.W.Write.contents c.args.writer.now) (g.W.Write.contents c.write_log.new.writer) c.write_log.result text (reading_of c.in-Ok.log, c.in-Ok.ensures.read, printed) c.write_log.ensures.err
+    shown_ends (PrintsLog c.args.bytes.now) (g.W.Write.contents c.args.writer.now) (g.W.Write.contents c.write_log.new.writer) c.write_log.result text
+    (reading_of c.in-Ok.log, c.in-Ok.ensures.read, printed) c.write_log.ensures.err
 
 pub returns-in-Ok-clause-only : goal.returns-in-Ok-clause-only
 returns-in-Ok-clause-only g c = λ says h.
     let e = c.in-Ok.log.ending in
     let text : Bytes = log_text c.as_slice.result.now e in
     let printed = ap (λ (rs : List Record). Ok (log_text rs e)) (sym c.as_slice.ensures) in
-    told_agrees c.write_log.result says text (g.W.Write.contents c.args.writer.now) (g.W.Write.contents c.write_log.new.writer) (h.2 ∙ ap of_reading (c.in-Ok.ensures.only h.0 h.1) ∙ printed) c.write_log.ensures.ok c.write_log.ensures.err
+    told_agrees c.write_log.result says text (g.W.Write.contents c.args.writer.now) (g.W.Write.contents c.write_log.new.writer) (h.2 ∙ ap of_reading (c.in-Ok.ensures.only h.0 h.1) ∙ printed)
+    c.write_log.ensures.ok c.write_log.ensures.err
 
 pub returns-in-Err-clause-fault : goal.returns-in-Err-clause-fault
 returns-in-Err-clause-fault g c =

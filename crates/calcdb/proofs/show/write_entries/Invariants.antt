@@ -1,6 +1,6 @@
 use Rattle.std.proofs.Common.{drop}
 use Rattle.calcdb.specs.Output.{entries_text}
-use Rattle.calcdb.proofs.Goings.{Gone}
+use Rattle.procedure.proofs.WriteProgress.{Gone}
 use Rattle.calcdb.proofs.show.write_entries.Given as goal
 
 -- the lines of the entries that are left are left to go

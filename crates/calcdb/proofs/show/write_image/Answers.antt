@@ -2,7 +2,7 @@ use Rattle.std.proofs.Common.{[], refl, sym, ap, ◌∙◌}
 use Rattle.std.proofs.lemmas.Result.{IfErr-weaker, err_from_is_err_and}
 use Rattle.std.proofs.lemmas.List.{append-nil}
 use Rattle.calcdb.specs.Output.{entries_text, header_line, image_text}
-use Rattle.calcdb.proofs.Goings.{more_gone, nothing_gone}
+use Rattle.procedure.proofs.WriteProgress.{more_gone, nothing_gone}
 use Rattle.calcdb.proofs.Shown.{header_stops, stops_on}
 use Rattle.calcdb.proofs.show.write_image.Goals as goal
 
@@ -24,4 +24,5 @@ returns-clause-err g c =
     let text = image_text i in
     let given = entries_text c.entries.result.now in
     let gone = more_gone old old now text text (header_line i) (entries_text i.entries) (nothing_gone old text) refl c.in_ok-write_header.ensures.ok in
-    IfErr-weaker c.write_entries.result _ _ (λ f h. stops_on old now new text (entries_text i.entries) given [] f gone (ap entries_text (sym c.entries.ensures.value) ∙ sym (append-nil given)) h) c.write_entries.ensures.err
+    IfErr-weaker c.write_entries.result _ _ (λ f h. stops_on old now new text (entries_text i.entries) given [] f gone (ap entries_text (sym c.entries.ensures.value) ∙ sym (append-nil given)) h)
+    c.write_entries.ensures.err

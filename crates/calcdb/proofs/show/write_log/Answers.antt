@@ -2,7 +2,7 @@ use Rattle.std.proofs.Common.{[], length, refl, sym}
 use Rattle.std.proofs.lemmas.Result.{IfErr-weaker, err_from_is_err_and}
 use Rattle.std.proofs.lemmas.List.{append-nil}
 use Rattle.calcdb.specs.Showing.{count_text, log_text, records_text}
-use Rattle.calcdb.proofs.Goings.{more_gone, nothing_gone}
+use Rattle.procedure.proofs.WriteProgress.{more_gone, nothing_gone}
 use Rattle.calcdb.proofs.Shown.{stops_on}
 use Rattle.calcdb.proofs.show.write_log.Goals as goal
 

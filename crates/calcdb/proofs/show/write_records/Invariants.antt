@@ -1,6 +1,6 @@
 use Rattle.std.proofs.Common.{drop}
 use Rattle.calcdb.specs.Showing.{records_text}
-use Rattle.calcdb.proofs.Goings.{Gone}
+use Rattle.procedure.proofs.WriteProgress.{Gone}
 use Rattle.calcdb.proofs.show.write_records.Given as goal
 
 -- the lines of the records that are left are left to go

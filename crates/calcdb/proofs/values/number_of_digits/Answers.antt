@@ -21,7 +21,8 @@ returns-in_err-number-clause-value c =
 
 pub loop-byte-preserved : goal.loop-byte-preserved
 loop-byte-preserved c = record {
-  whole = digit_kept c.args.most c.loop-byte.number c.args.digits.now c.loop-byte.byte-index c.in_ok-digit_of.field-0 c.in_ok-number.number c.loop-byte-test.true c.in_ok-digit_of.ensures c.in_ok-number.ensures ∙ c.loop-byte.invariant.whole;
+  whole = digit_kept c.args.most c.loop-byte.number c.args.digits.now c.loop-byte.byte-index c.in_ok-digit_of.field-0 c.in_ok-number.number c.loop-byte-test.true c.in_ok-digit_of.ensures
+      c.in_ok-number.ensures ∙ c.loop-byte.invariant.whole;
   fits = (within c.args.most _ c.in_ok-number.number c.in_ok-number.ensures).1;
 }
 

@@ -22,4 +22,5 @@ returns-in-Some-clause-fits g c =
     subst (Fits c.args.version) (sym c.in-Some.ensures.value) (c.in-Some.ensures.ranges.0 refl, takes.1)
 
 pub returns-in-None-clause-malformed : goal.returns-in-None-clause-malformed
-returns-in-None-clause-malformed g c = λ _. out_of_range c.args.version c.args.bytes.now (record_of c.in_ok-entry.entry) c.in_ok-entry.ensures (λ h. let e : false ≡ true = c.in-None.ensures.ranges.1 h in cc)
+returns-in-None-clause-malformed g c = λ _. out_of_range c.args.version c.args.bytes.now (record_of c.in_ok-entry.entry) c.in_ok-entry.ensures
+    (λ h. let e : false ≡ true = c.in-None.ensures.ranges.1 h in cc)

@@ -2,7 +2,7 @@ use Rattle.std.proofs.Common.{◌≡◌, ◌+◌, ◌++◌, drop, sym, ap, subst
 use Rattle.std.proofs.lemmas.Result.{err_from_is_err_and}
 use Rattle.procedure.specs.Bytes.{Bytes}
 use Rattle.commitlog.specs.LogBytes.{record_bytes, records_bytes, next_digest}
-use Rattle.commitlog.proofs.Goings.{Gone, more_gone, begun_on, next_item}
+use Rattle.procedure.proofs.WriteProgress.{Gone, more_gone, begun_on, next_item}
 use Rattle.commitlog.proofs.streams.write_out_records.Goals as goal
 
 pub returns-in_err-digest-clause-err : goal.returns-in_err-digest-clause-err

@@ -1,6 +1,6 @@
 use Rattle.std.proofs.Common.{drop}
 use Rattle.commitlog.specs.LogBytes.{records_bytes}
-use Rattle.commitlog.proofs.Goings.{Gone}
+use Rattle.procedure.proofs.WriteProgress.{Gone}
 use Rattle.commitlog.proofs.streams.write_out_records.Given as goal
 
 abbrev pub invariant-loop-record : goal.invariant-loop-record

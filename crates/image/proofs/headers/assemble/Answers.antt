@@ -1,7 +1,7 @@
 use Rattle.std.proofs.Common.{List, refl, sym, ap, subst, ◌∙◌}
 use Rattle.std.specs.FinMap as finite
 use Rattle.procedure.specs.Table.{Changes}
-use Rattle.image.specs.Images.{Entry, IsLawful}
+use Rattle.image.specs.Images.{Entry, IsLawfulImage}
 use Rattle.image.proofs.Digests.{alike, differ}
 use Rattle.image.proofs.headers.assemble.Goals as goal
 use Rattle.image.proofs.headers.assemble.Goals.{then-header-entries-via-then-header-entries, then-header-entries-via-else-header-entries+then-ne}
@@ -21,6 +21,6 @@ returns-in-Some-clause-fits g c =
       chain = alike h.chain c.chain_of.result (sym c.ne.ensures ∙ c.if-ne.false) ∙ c.chain_of.ensures;
       once = ap (λ (m : Changes). finite.len m) (sym c.in_ok-map.ensures) ∙ sym c.len.ensures ∙ c.if-len-entries.false;
       lawful =
-          subst (λ (es : List Entry). IsLawful (record { kind = h.kind; number = h.number; base = h.base; place = h.place; entries = es }))
+          subst (λ (es : List Entry). IsLawfulImage (record { kind = h.kind; number = h.number; base = h.base; place = h.place; entries = es }))
           (c.in_ok-sorted.ensures ∙ ap (λ (m : Changes). finite.entries m) c.in_ok-map.ensures) (c.in-Some.ensures.lawful.0 refl);
     }

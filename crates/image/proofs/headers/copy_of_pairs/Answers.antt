@@ -4,7 +4,8 @@ use Rattle.image.proofs.headers.copy_of_pairs.Goals as goal
 pub loop-entry-preserved : goal.loop-entry-preserved
 loop-entry-preserved g c =
     let l = c.loop-entry in
-    one_more c.args.entries.now l.entry-index c.entry-item.result c.in_ok-copy_of_pair.field-0 l.copy.items c.push.new.self.items c.loop-entry-test.true c.entry-item.is c.in_ok-copy_of_pair.ensures c.in_ok-push.ensures.items
+    one_more c.args.entries.now l.entry-index c.entry-item.result c.in_ok-copy_of_pair.field-0 l.copy.items c.push.new.self.items c.loop-entry-test.true c.entry-item.is c.in_ok-copy_of_pair.ensures
+    c.in_ok-push.ensures.items
     l.invariant
 
 pub returns : goal.returns

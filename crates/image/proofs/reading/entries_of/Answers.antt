@@ -20,7 +20,8 @@ loop-piece-preserved g c =
     let i = c.loop-piece.piece-index in
     let piece = c.piece-item.result in
     record {
-      made = one_more pieces i piece c.in_ok-entry_of.field-0 c.loop-piece.entries.items c.push.new.self.items c.loop-piece-test.true c.piece-item.is c.in_ok-entry_of.ensures.value c.in_ok-push.ensures.items c.loop-piece.invariant.made;
+      made = one_more pieces i piece c.in_ok-entry_of.field-0 c.loop-piece.entries.items c.push.new.self.items c.loop-piece-test.true c.piece-item.is c.in_ok-entry_of.ensures.value
+          c.in_ok-push.ensures.items c.loop-piece.invariant.made;
       fits = λ h. c.loop-piece.invariant.fits (all_with fits pieces i piece c.loop-piece-test.true c.piece-item.is c.in_ok-entry_of.ensures.fits h);
       left = λ h. (all_from fits pieces i piece c.loop-piece-test.true c.piece-item.is (c.loop-piece.invariant.left h)).1;
     }

@@ -10,27 +10,43 @@ returns-then-bytes-lt-SHORTEST-clause-exact g c = λ a h.
 pub returns-then-eq-clause-answer : goal.returns-then-eq-clause-answer
 returns-then-eq-clause-answer g c =
     first_judged c.args.bytes.now c.read_first.result
-    (record { long = c.if-bytes-lt-SHORTEST.false; magic = sym c.split_at.ensures.front ∙ same_bytes c.split_at.result.0.now c.as_slice.result.now (sym c.eq.ensures ∙ c.if-eq.true) ∙ c.as_slice.ensures })
+    (record {
+      long = c.if-bytes-lt-SHORTEST.false;
+      magic = sym c.split_at.ensures.front ∙ same_bytes c.split_at.result.0.now c.as_slice.result.now (sym c.eq.ensures ∙ c.if-eq.true) ∙
+          c.as_slice.ensures;
+    })
     (λ i. omega (arith, c.type_inv.bytes i)) c.read_first.ensures
 
 pub returns-then-eq-clause-exact : goal.returns-then-eq-clause-exact
 returns-then-eq-clause-exact g c = λ a h.
     is_exact c.args.bytes.now c.read_first.result a (λ i. omega (arith, c.type_inv.bytes i))
     (first_judged c.args.bytes.now c.read_first.result
-    (record { long = c.if-bytes-lt-SHORTEST.false; magic = sym c.split_at.ensures.front ∙ same_bytes c.split_at.result.0.now c.as_slice.result.now (sym c.eq.ensures ∙ c.if-eq.true) ∙ c.as_slice.ensures })
+    (record {
+      long = c.if-bytes-lt-SHORTEST.false;
+      magic = sym c.split_at.ensures.front ∙ same_bytes c.split_at.result.0.now c.as_slice.result.now (sym c.eq.ensures ∙ c.if-eq.true) ∙
+          c.as_slice.ensures;
+    })
     (λ i. omega (arith, c.type_inv.bytes i)) c.read_first.ensures) h
 
 pub returns-then-eq-2-clause-answer : goal.returns-then-eq-2-clause-answer
 returns-then-eq-2-clause-answer g c =
     second_judged c.args.bytes.now c.read_second.result
-    (record { long = c.if-bytes-lt-SHORTEST.false; magic = sym c.split_at.ensures.front ∙ same_bytes c.split_at.result.0.now c.as_slice-2.result.now (sym c.eq-2.ensures ∙ c.if-eq-2.true) ∙ c.as_slice-2.ensures })
+    (record {
+      long = c.if-bytes-lt-SHORTEST.false;
+      magic = sym c.split_at.ensures.front ∙ same_bytes c.split_at.result.0.now c.as_slice-2.result.now (sym c.eq-2.ensures ∙ c.if-eq-2.true) ∙
+          c.as_slice-2.ensures;
+    })
     (λ i. omega (arith, c.type_inv.bytes i)) c.read_second.ensures
 
 pub returns-then-eq-2-clause-exact : goal.returns-then-eq-2-clause-exact
 returns-then-eq-2-clause-exact g c = λ a h.
     is_exact c.args.bytes.now c.read_second.result a (λ i. omega (arith, c.type_inv.bytes i))
     (second_judged c.args.bytes.now c.read_second.result
-    (record { long = c.if-bytes-lt-SHORTEST.false; magic = sym c.split_at.ensures.front ∙ same_bytes c.split_at.result.0.now c.as_slice-2.result.now (sym c.eq-2.ensures ∙ c.if-eq-2.true) ∙ c.as_slice-2.ensures })
+    (record {
+      long = c.if-bytes-lt-SHORTEST.false;
+      magic = sym c.split_at.ensures.front ∙ same_bytes c.split_at.result.0.now c.as_slice-2.result.now (sym c.eq-2.ensures ∙ c.if-eq-2.true) ∙
+          c.as_slice-2.ensures;
+    })
     (λ i. omega (arith, c.type_inv.bytes i)) c.read_second.ensures) h
 
 pub returns-clause-exact : goal.returns-clause-exact

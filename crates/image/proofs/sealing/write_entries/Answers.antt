@@ -19,7 +19,8 @@ returns-in_err-write_entry-clause-full g c =
     let among = entry_among c.args.entries.now l.entry-index c.entry-item.result l.out.items c.args.out.now.items c.loop-entry-test.true c.entry-item.is l.invariant.bytes in
     rw p.1 (omega (arith, among, l.invariant.capacity, c.in_err-write_entry.ensures.full, l.out.ok.0, c.args.out.now.ok.0))
 
-written_more : (es : List Entry) (i : ℕ) (e : Entry) (out new whole : Bytes) → i < length es → e ≡ get_or es i e → new ≡ out ++ entry_bytes e → out ++ entries_bytes (drop i es) ≡ whole → new ++ entries_bytes (drop (i + 1) es) ≡ whole
+written_more : (es : List Entry) (i : ℕ) (e : Entry) (out new whole : Bytes) → i < length es → e ≡ get_or es i e → new ≡ out ++ entry_bytes e → out ++ entries_bytes (drop i es) ≡ whole →
+    new ++ entries_bytes (drop (i + 1) es) ≡ whole
 written_more es i e out new whole lt is wrote so_far =
     let rest = entries_bytes (drop (i + 1) es) in
     ap (λ (x : Bytes). x ++ rest) wrote
@@ -36,7 +37,8 @@ loop-entry-preserved g c =
     let es = c.args.entries.now in
     let e = c.entry-item.result in
     record {
-      bytes = written_more es l.entry-index e l.out.items c.write_entry.new.out.items (c.args.out.now.items ++ entries_bytes es) c.loop-entry-test.true c.entry-item.is c.in_ok-write_entry.ensures.bytes l.invariant.bytes;
+      bytes = written_more es l.entry-index e l.out.items c.write_entry.new.out.items (c.args.out.now.items ++ entries_bytes es) c.loop-entry-test.true c.entry-item.is
+          c.in_ok-write_entry.ensures.bytes l.invariant.bytes;
       capacity = no_less (vec_capacity c.args.out.now) (vec_capacity l.out) (vec_capacity c.write_entry.new.out) l.invariant.capacity c.in_ok-write_entry.ensures.capacity;
       fits = λ rest. l.invariant.fits (all_with (IsWithin VALUE_BYTES) es l.entry-index e c.loop-entry-test.true c.entry-item.is c.in_ok-write_entry.ensures.fits rest);
     }

@@ -85,22 +85,40 @@ pub returns-in_err-push-clause-capacity : goal.returns-in_err-push-clause-capaci
 returns-in_err-push-clause-capacity g c = c.in_err-push.ensures.capacity
 
 pub returns-in_err-extend_from_slice-clause-capacity : goal.returns-in_err-extend_from_slice-clause-capacity
-returns-in_err-extend_from_slice-clause-capacity g c = no_less (vec_capacity c.args.out.now) (vec_capacity c.push.new.self) (vec_capacity c.extend_from_slice.new.self) c.in_ok-push.ensures.capacity c.in_err-extend_from_slice.ensures.capacity
+returns-in_err-extend_from_slice-clause-capacity g c = no_less (vec_capacity c.args.out.now) (vec_capacity c.push.new.self) (vec_capacity c.extend_from_slice.new.self) c.in_ok-push.ensures.capacity
+    c.in_err-extend_from_slice.ensures.capacity
 
 pub returns-in_err-push-in-None-clause-capacity : goal.returns-in_err-push-in-None-clause-capacity
-returns-in_err-push-in-None-clause-capacity g c = no_less (vec_capacity c.args.out.now) (vec_capacity c.extend_from_slice.new.self) (vec_capacity c.push-in-None.new.self) (no_less (vec_capacity c.args.out.now) (vec_capacity c.push.new.self) (vec_capacity c.extend_from_slice.new.self) c.in_ok-push.ensures.capacity c.in_ok-extend_from_slice.ensures.capacity) c.in_err-push-in-None.ensures.capacity
+returns-in_err-push-in-None-clause-capacity g c = no_less (vec_capacity c.args.out.now) (vec_capacity c.extend_from_slice.new.self) (vec_capacity c.push-in-None.new.self)
+    (no_less (vec_capacity c.args.out.now) (vec_capacity c.push.new.self) (vec_capacity c.extend_from_slice.new.self) c.in_ok-push.ensures.capacity c.in_ok-extend_from_slice.ensures.capacity)
+    c.in_err-push-in-None.ensures.capacity
 
 pub returns-in_err-push-in-Some-clause-capacity : goal.returns-in_err-push-in-Some-clause-capacity
-returns-in_err-push-in-Some-clause-capacity g c = no_less (vec_capacity c.args.out.now) (vec_capacity c.extend_from_slice.new.self) (vec_capacity c.push-in-Some.new.self) (no_less (vec_capacity c.args.out.now) (vec_capacity c.push.new.self) (vec_capacity c.extend_from_slice.new.self) c.in_ok-push.ensures.capacity c.in_ok-extend_from_slice.ensures.capacity) c.in_err-push-in-Some.ensures.capacity
+returns-in_err-push-in-Some-clause-capacity g c = no_less (vec_capacity c.args.out.now) (vec_capacity c.extend_from_slice.new.self) (vec_capacity c.push-in-Some.new.self)
+    (no_less (vec_capacity c.args.out.now) (vec_capacity c.push.new.self) (vec_capacity c.extend_from_slice.new.self) c.in_ok-push.ensures.capacity c.in_ok-extend_from_slice.ensures.capacity)
+    c.in_err-push-in-Some.ensures.capacity
 
 pub returns-in_err-write_u16-in-Some-clause-capacity : goal.returns-in_err-write_u16-in-Some-clause-capacity
-returns-in_err-write_u16-in-Some-clause-capacity g c = no_less (vec_capacity c.args.out.now) (vec_capacity c.push-in-Some.new.self) (vec_capacity c.write_u16.new.out) (no_less (vec_capacity c.args.out.now) (vec_capacity c.extend_from_slice.new.self) (vec_capacity c.push-in-Some.new.self) (no_less (vec_capacity c.args.out.now) (vec_capacity c.push.new.self) (vec_capacity c.extend_from_slice.new.self) c.in_ok-push.ensures.capacity c.in_ok-extend_from_slice.ensures.capacity) c.in_ok-push-in-Some.ensures.capacity) c.in_err-write_u16-in-Some.ensures.capacity
+returns-in_err-write_u16-in-Some-clause-capacity g c = no_less (vec_capacity c.args.out.now) (vec_capacity c.push-in-Some.new.self) (vec_capacity c.write_u16.new.out)
+    (no_less (vec_capacity c.args.out.now) (vec_capacity c.extend_from_slice.new.self) (vec_capacity c.push-in-Some.new.self)
+    (no_less (vec_capacity c.args.out.now) (vec_capacity c.push.new.self) (vec_capacity c.extend_from_slice.new.self) c.in_ok-push.ensures.capacity c.in_ok-extend_from_slice.ensures.capacity)
+    c.in_ok-push-in-Some.ensures.capacity) c.in_err-write_u16-in-Some.ensures.capacity
 
 pub returns-in_err-extend_from_slice-in-Some-clause-capacity : goal.returns-in_err-extend_from_slice-in-Some-clause-capacity
-returns-in_err-extend_from_slice-in-Some-clause-capacity g c = no_less (vec_capacity c.args.out.now) (vec_capacity c.write_u16.new.out) (vec_capacity c.extend_from_slice-in-Some.new.self) (no_less (vec_capacity c.args.out.now) (vec_capacity c.push-in-Some.new.self) (vec_capacity c.write_u16.new.out) (no_less (vec_capacity c.args.out.now) (vec_capacity c.extend_from_slice.new.self) (vec_capacity c.push-in-Some.new.self) (no_less (vec_capacity c.args.out.now) (vec_capacity c.push.new.self) (vec_capacity c.extend_from_slice.new.self) c.in_ok-push.ensures.capacity c.in_ok-extend_from_slice.ensures.capacity) c.in_ok-push-in-Some.ensures.capacity) c.in_ok-write_u16-in-Some.ensures.capacity) c.in_err-extend_from_slice-in-Some.ensures.capacity
+returns-in_err-extend_from_slice-in-Some-clause-capacity g c = no_less (vec_capacity c.args.out.now) (vec_capacity c.write_u16.new.out) (vec_capacity c.extend_from_slice-in-Some.new.self)
+    (no_less (vec_capacity c.args.out.now) (vec_capacity c.push-in-Some.new.self) (vec_capacity c.write_u16.new.out)
+    (no_less (vec_capacity c.args.out.now) (vec_capacity c.extend_from_slice.new.self) (vec_capacity c.push-in-Some.new.self)
+    (no_less (vec_capacity c.args.out.now) (vec_capacity c.push.new.self) (vec_capacity c.extend_from_slice.new.self) c.in_ok-push.ensures.capacity c.in_ok-extend_from_slice.ensures.capacity)
+    c.in_ok-push-in-Some.ensures.capacity) c.in_ok-write_u16-in-Some.ensures.capacity) c.in_err-extend_from_slice-in-Some.ensures.capacity
 
 pub returns-in_ok-push-in-None-clause-capacity : goal.returns-in_ok-push-in-None-clause-capacity
-returns-in_ok-push-in-None-clause-capacity g c = no_less (vec_capacity c.args.out.now) (vec_capacity c.extend_from_slice.new.self) (vec_capacity c.push-in-None.new.self) (no_less (vec_capacity c.args.out.now) (vec_capacity c.push.new.self) (vec_capacity c.extend_from_slice.new.self) c.in_ok-push.ensures.capacity c.in_ok-extend_from_slice.ensures.capacity) c.in_ok-push-in-None.ensures.capacity
+returns-in_ok-push-in-None-clause-capacity g c = no_less (vec_capacity c.args.out.now) (vec_capacity c.extend_from_slice.new.self) (vec_capacity c.push-in-None.new.self)
+    (no_less (vec_capacity c.args.out.now) (vec_capacity c.push.new.self) (vec_capacity c.extend_from_slice.new.self) c.in_ok-push.ensures.capacity c.in_ok-extend_from_slice.ensures.capacity)
+    c.in_ok-push-in-None.ensures.capacity
 
 pub returns-in_ok-extend_from_slice-in-Some-clause-capacity : goal.returns-in_ok-extend_from_slice-in-Some-clause-capacity
-returns-in_ok-extend_from_slice-in-Some-clause-capacity g c = no_less (vec_capacity c.args.out.now) (vec_capacity c.write_u16.new.out) (vec_capacity c.extend_from_slice-in-Some.new.self) (no_less (vec_capacity c.args.out.now) (vec_capacity c.push-in-Some.new.self) (vec_capacity c.write_u16.new.out) (no_less (vec_capacity c.args.out.now) (vec_capacity c.extend_from_slice.new.self) (vec_capacity c.push-in-Some.new.self) (no_less (vec_capacity c.args.out.now) (vec_capacity c.push.new.self) (vec_capacity c.extend_from_slice.new.self) c.in_ok-push.ensures.capacity c.in_ok-extend_from_slice.ensures.capacity) c.in_ok-push-in-Some.ensures.capacity) c.in_ok-write_u16-in-Some.ensures.capacity) c.in_ok-extend_from_slice-in-Some.ensures.capacity
+returns-in_ok-extend_from_slice-in-Some-clause-capacity g c = no_less (vec_capacity c.args.out.now) (vec_capacity c.write_u16.new.out) (vec_capacity c.extend_from_slice-in-Some.new.self)
+    (no_less (vec_capacity c.args.out.now) (vec_capacity c.push-in-Some.new.self) (vec_capacity c.write_u16.new.out)
+    (no_less (vec_capacity c.args.out.now) (vec_capacity c.extend_from_slice.new.self) (vec_capacity c.push-in-Some.new.self)
+    (no_less (vec_capacity c.args.out.now) (vec_capacity c.push.new.self) (vec_capacity c.extend_from_slice.new.self) c.in_ok-push.ensures.capacity c.in_ok-extend_from_slice.ensures.capacity)
+    c.in_ok-push-in-Some.ensures.capacity) c.in_ok-write_u16-in-Some.ensures.capacity) c.in_ok-extend_from_slice-in-Some.ensures.capacity

@@ -2,10 +2,10 @@ use Rattle.std.proofs.Common.{refl, sym, subst, ◌∙◌, inl, inr}
 use Rattle.procedure.specs.Bytes.{Bytes}
 use Rattle.image.specs.Refusals.{IsAnswer}
 use Rattle.image.specs.declared.errors.ReadError.TheVariants as refused
-use Rattle.image.specs.Streams.{IsAnswerFrom, TellsFrom}
+use Rattle.image.specs.Streams.{IsAnswerFrom, IsUnread, TellsFrom}
 use Rattle.image.specs.declared.streams.ReadFromError.TheVariants as read_refused
 use Rattle.image.proofs.Arrivals.{all_read, image_read, image_told, refusal_is, refusal_read, tells_unread, unread}
-use Rattle.image.proofs.Results.{err_of}
+use Rattle.image.proofs.Results.{err_of, err_with}
 use Rattle.image.proofs.streams.read_from.Goals as goal
 
 pub returns-clause-exact : goal.returns-clause-exact
@@ -30,15 +30,16 @@ pub returns-in_err-text-clause-answer : goal.returns-in_err-text-clause-answer
 returns-in_err-text-clause-answer g c =
     let old = g.R.Read.remaining c.args.reader.now in
     let new = g.R.Read.remaining c.read_all.new.reader in
-    err_of (IsAnswerFrom old new) c.from_residual-in_err-text.result c.in_err-text.field-0.0 c.from_residual-in_err-text.ensures.1 (unread old new c.in_err-text.field-0.0 c.in_err-text.ensures.err)
+    err_with (IsAnswerFrom old new) IsUnread (unread old new) c.from_residual-in_err-text.result c.from_residual-in_err-text.ensures.1
 
 pub returns-in_err-text-clause-exact : goal.returns-in_err-text-clause-exact
 returns-in_err-text-clause-exact g c = λ text answer known h.
-    err_of (λ r. TellsFrom r answer) c.from_residual-in_err-text.result c.in_err-text.field-0.0 c.from_residual-in_err-text.ensures.1 (tells_unread answer c.in_err-text.field-0.0 c.in_err-text.ensures.err)
+    err_with (λ r. TellsFrom r answer) IsUnread (tells_unread answer) c.from_residual-in_err-text.result c.from_residual-in_err-text.ensures.1
 
 pub returns-in-Ok-clause-answer : goal.returns-in-Ok-clause-answer
 returns-in-Ok-clause-answer g c =
-    image_read (g.R.Read.remaining c.args.reader.now) (g.R.Read.remaining c.read_all.new.reader) c.in_ok-text.text.items c.as_slice.result.now c.in_ok-text.ensures.read c.in_ok-text.ensures.end c.as_slice.ensures.value
+    image_read (g.R.Read.remaining c.args.reader.now) (g.R.Read.remaining c.read_all.new.reader) c.in_ok-text.text.items c.as_slice.result.now c.in_ok-text.ensures.read c.in_ok-text.ensures.end
+    c.as_slice.ensures.value
     c.in-Ok.image c.in-Ok.ensures.answer
 
 pub returns-in-Ok-clause-exact : goal.returns-in-Ok-clause-exact
@@ -49,5 +50,6 @@ returns-in-Ok-clause-exact g c = λ text answer known h.
 
 pub returns-clause-answer : goal.returns-clause-answer
 returns-clause-answer g c =
-    refusal_read (g.R.Read.remaining c.args.reader.now) (g.R.Read.remaining c.read_all.new.reader) c.in_ok-text.text.items c.as_slice.result.now c.in_ok-text.ensures.read c.in_ok-text.ensures.end c.as_slice.ensures.value
+    refusal_read (g.R.Read.remaining c.args.reader.now) (g.R.Read.remaining c.read_all.new.reader) c.in_ok-text.text.items c.as_slice.result.now c.in_ok-text.ensures.read c.in_ok-text.ensures.end
+    c.as_slice.ensures.value
     c.in-Err.refused c.in-Err.ensures.answer

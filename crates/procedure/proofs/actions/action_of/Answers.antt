@@ -45,12 +45,14 @@ module _ (i : Instruction) (args : List Bytes) (rs : List Cell) (found : Cell) w
   unfolding effect
   effect-read r k x key is gives are = ap (λ z. reading rs r z found) (are ∙ ap as_key gives) ∙ same_effect (Read r k) is
 
-  effect-put : (k v : Operand Bytes) (x y : Cell) (key : Option Bytes) → i ≡ Put k v → x ≡ operand_value k args rs → key ≡ as_key x → y ≡ operand_value v args rs → putting rs key y ≡ effect i args rs found
+  effect-put : (k v : Operand Bytes) (x y : Cell) (key : Option Bytes) → i ≡ Put k v → x ≡ operand_value k args rs → key ≡ as_key x → y ≡ operand_value v args rs →
+      putting rs key y ≡ effect i args rs found
   unfolding effect
   effect-put k v x y key is gives are value =
       ap (λ z. putting rs z y) (are ∙ ap as_key gives) ∙ ap (putting rs (as_key (operand_value k args rs))) value ∙ same_effect (Put k v) is
 
-  effect-insert : (k v : Operand Bytes) (x y : Cell) (key : Option Bytes) → i ≡ Insert k v → x ≡ operand_value k args rs → key ≡ as_key x → y ≡ operand_value v args rs → inserting rs key y found ≡ effect i args rs found
+  effect-insert : (k v : Operand Bytes) (x y : Cell) (key : Option Bytes) → i ≡ Insert k v → x ≡ operand_value k args rs → key ≡ as_key x → y ≡ operand_value v args rs →
+      inserting rs key y found ≡ effect i args rs found
   unfolding effect
   effect-insert k v x y key is gives are value =
       ap (λ z. inserting rs z y found) (are ∙ ap as_key gives) ∙ ap (λ z. inserting rs (as_key (operand_value k args rs)) z found) value ∙ same_effect (Insert k v) is
@@ -59,14 +61,16 @@ module _ (i : Instruction) (args : List Bytes) (rs : List Cell) (found : Cell) w
   unfolding effect
   effect-delete k x key is gives are = ap (λ z. deleting rs z found) (are ∙ ap as_key gives) ∙ same_effect (Delete k) is
 
-  module _ (r : ℕ) (p q : Operand Bytes) (x y : Cell) (m n : Option ℕ) (left : x ≡ operand_value p args rs) (right : y ≡ operand_value q args rs) (first : m ≡ as_number x) (second : n ≡ as_number y) where
-    effect-add : i ≡ Add r p q → adding rs r m n ≡ effect i args rs found
-    unfolding effect
-    effect-add is = ap (λ z. adding rs r z n) (first ∙ ap as_number left) ∙ ap (adding rs r (as_number (operand_value p args rs))) (second ∙ ap as_number right) ∙ same_effect (Add r p q) is
+  module _ (r : ℕ) (p q : Operand Bytes) (x y : Cell) (m n : Option ℕ) (left : x ≡ operand_value p args rs) (right : y ≡ operand_value q args rs) (first : m ≡ as_number x) (second : n ≡ as_number y)
+    where
+      effect-add : i ≡ Add r p q → adding rs r m n ≡ effect i args rs found
+      unfolding effect
+      effect-add is = ap (λ z. adding rs r z n) (first ∙ ap as_number left) ∙ ap (adding rs r (as_number (operand_value p args rs))) (second ∙ ap as_number right) ∙ same_effect (Add r p q) is
 
-    effect-sub : i ≡ Sub r p q → subtracting rs r m n ≡ effect i args rs found
-    unfolding effect
-    effect-sub is = ap (λ z. subtracting rs r z n) (first ∙ ap as_number left) ∙ ap (subtracting rs r (as_number (operand_value p args rs))) (second ∙ ap as_number right) ∙ same_effect (Sub r p q) is
+      effect-sub : i ≡ Sub r p q → subtracting rs r m n ≡ effect i args rs found
+      unfolding effect
+      effect-sub is = ap (λ z. subtracting rs r z n) (first ∙ ap as_number left) ∙ ap (subtracting rs r (as_number (operand_value p args rs))) (second ∙ ap as_number right) ∙
+          same_effect (Sub r p q) is
 
   effect-abort : (t : Test Bytes) (code : ℕ) (b : Bool) → i ≡ AbortIf t code → b ≡ holds t args rs → cond b (ending rs code) (passing rs) ≡ effect i args rs found
   unfolding effect
@@ -161,6 +165,8 @@ returns-after-test_holds-clause-value g c =
     let code = c.in-AbortIf.code in
     let action = c.if-test_holds.result in
     elim c.if-test_holds.branch [
-      | goal.then-test_holds w ↦ stands_for action rs (ending rs code) (effect i args rs found) (ap (λ a. effect_of a rs None) w.result-is) (effect-abort i args rs found t code true c.in-AbortIf.is w.if-test_holds.ensures)
-      | goal.else-test_holds w ↦ stands_for action rs (passing rs) (effect i args rs found) (ap (λ a. effect_of a rs None) w.result-is) (effect-abort i args rs found t code false c.in-AbortIf.is w.if-test_holds.ensures)
+      | goal.then-test_holds w ↦ stands_for action rs (ending rs code) (effect i args rs found) (ap (λ a. effect_of a rs None) w.result-is)
+          (effect-abort i args rs found t code true c.in-AbortIf.is w.if-test_holds.ensures)
+      | goal.else-test_holds w ↦ stands_for action rs (passing rs) (effect i args rs found) (ap (λ a. effect_of a rs None) w.result-is)
+          (effect-abort i args rs found t code false c.in-AbortIf.is w.if-test_holds.ensures)
     ]

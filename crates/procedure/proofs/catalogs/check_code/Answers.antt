@@ -10,12 +10,14 @@ returns g c =
 
 pub loop-instruction-preserved : goal.loop-instruction-preserved
 loop-instruction-preserved g c =
-    fault_later c.args.code.now c.loop-instruction.instruction-index c.instruction-item.result c.loop-instruction-test.true c.instruction-item.is (instruction_fault c.args.arity) c.in_ok-check_instruction.ensures
+    fault_later c.args.code.now c.loop-instruction.instruction-index c.instruction-item.result c.loop-instruction-test.true c.instruction-item.is (instruction_fault c.args.arity)
+    c.in_ok-check_instruction.ensures
     ∙ c.loop-instruction.invariant
 
 pub returns-in_err-check_instruction : goal.returns-in_err-check_instruction
 returns-in_err-check_instruction g c =
     let fault = c.in_err-check_instruction.field-0.0 in
     err_is c.from_residual.result fault c.from_residual.ensures.1
-    ∙ fault_now c.args.code.now c.loop-instruction.instruction-index c.instruction-item.result c.loop-instruction-test.true c.instruction-item.is (instruction_fault c.args.arity) fault c.in_err-check_instruction.ensures
+    ∙ fault_now c.args.code.now c.loop-instruction.instruction-index c.instruction-item.result c.loop-instruction-test.true c.instruction-item.is (instruction_fault c.args.arity) fault
+    c.in_err-check_instruction.ensures
     ∙ c.loop-instruction.invariant

@@ -25,6 +25,7 @@ pub loop-instruction-preserved : goal.loop-instruction-preserved
 loop-instruction-preserved g c =
     let before = c.loop-instruction in
     record {
-      copied = copied_more c.args.code.now before.copy.items _ before.instruction-index _ _ c.loop-instruction-test.true before.invariant.copied c.push_reserved.ensures.items c.in_ok-copy_of_instruction.ensures c.instruction-item.is;
+      copied = copied_more c.args.code.now before.copy.items _ before.instruction-index _ _ c.loop-instruction-test.true before.invariant.copied c.push_reserved.ensures.items
+          c.in_ok-copy_of_instruction.ensures c.instruction-item.is;
       room = subst (λ n. length c.args.code.now ≤ n) (sym c.push_reserved.ensures.capacity) before.invariant.room;
     }

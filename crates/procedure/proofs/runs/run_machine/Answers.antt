@@ -10,7 +10,8 @@ returns-in-Some g c =
     let step = c.in_ok-outcome.ensures in
     let is : ended x.progress ≡ Some c.in-Some.outcome = sym step.outcome ∙ c.in-Some.is in
     front_end code c.args.machine.now.args c.args.table.now c.step_alone.new.machine c.step_alone.new.changes
-    (front_step code c.args.machine.now.args c.args.table.now x c.step_alone.new.machine c.loop-outcome.changes c.step_alone.new.changes (c.loop-outcome.invariant code front) step.args step.progress step.changes)
+    (front_step code c.args.machine.now.args c.args.table.now x c.step_alone.new.machine c.loop-outcome.changes c.step_alone.new.changes (c.loop-outcome.invariant code front) step.args step.progress
+    step.changes)
     c.in-Some.outcome
     (ap ended (step.progress ∙ alone_stays x.args c.args.table.now x.progress c.loop-outcome.changes c.in-Some.outcome is) ∙ is)
 

@@ -1,7 +1,7 @@
 use Rattle.std.proofs.Common.{◌≡◌, ℕ, ◌+◌, ◌≤◌, Bool, true, false, [], ◌∷◌, ◌++◌, if◌then◌else◌, ap, arith, sym, take, ◌∙◌}
 use Rattle.std.proofs.lemmas.Grind.{take_at_read}
 use Rattle.record_store.specs.ChangedFields.{set_of}
-use Rattle.record_store.specs.ChangedSets.{union, with_key}
+use Rattle.record_store.specs.ChangedSets.{union, with_member}
 use Rattle.record_store.proofs.ChangedKeys.{set_of-push, union-no_keys, union-with_key}
 use Rattle.record_store.proofs.changed_sets.add_keys.Goals as goal
 
@@ -22,9 +22,9 @@ loop-key-preserved g c =
     let more = c.args.more.now in
     let key = c.key-item.result in
     let before = set_of c.args.keys.now.keys in
-    let next : set_of (take (i + 1) more) ≡ with_key (set_of (take i more)) key =
+    let next : set_of (take (i + 1) more) ≡ with_member (set_of (take i more)) key =
     ap set_of ((take_at_read more i key c.loop-key-test.true).1 ∙ ap (λ k. take i more ++ k ∷ []) (sym c.key-item.is)) ∙ set_of-push (take i more) key in (
-      c.add_key.ensures.added ∙ ap (λ s. with_key s key) c.loop-key.invariant.0 ∙ union-with_key before (set_of (take i more)) key ∙ ap (union before) (sym next),
+      c.add_key.ensures.added ∙ ap (λ s. with_member s key) c.loop-key.invariant.0 ∙ union-with_key before (set_of (take i more)) key ∙ ap (union before) (sym next),
       omega (arith, at_most_one _ _ _ c.add_key.ensures.len, c.loop-key.invariant.1),
       omega (arith, c.add_key.ensures.room, c.loop-key.invariant.2),
       c.add_key.ensures.unique,

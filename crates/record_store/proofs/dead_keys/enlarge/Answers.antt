@@ -11,5 +11,6 @@ returns-clause-ok g c =
     let kept = c.refill.ensures.kept in
     let len : length new ≡ long.len = kept.same.len ∙ kept.move.len ∙ c.deref_mut.ensures.len in
     let done : IsEnlarged c.args.nodes.now.items new c.args.slots c.args.wanted =
-    enlarged c.args.nodes.now.items c.deref_mut.result.now kept.moved new c.args.slots c.args.wanted c.requires.nodes c.requires.more (c.deref_mut.ensures.value ∙ c.in_ok-lengthen.ensures.ok) kept.move kept.same in
+    enlarged c.args.nodes.now.items c.deref_mut.result.now kept.moved new c.args.slots c.args.wanted c.requires.nodes c.requires.more (c.deref_mut.ensures.value ∙ c.in_ok-lengthen.ensures.ok)
+    kept.move kept.same in
     subst (λ (nodes : Nodes). IsEnlarged c.args.nodes.now.items nodes c.args.slots c.args.wanted) (sym (with_items_is long new len)) done

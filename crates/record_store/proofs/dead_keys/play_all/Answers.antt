@@ -8,5 +8,6 @@ loop-node-preserved c =
     record {
       kept = kept_from c.args.nodes.now c.loop-node.nodes c.play.new.nodes c.args.slots (c.loop-node.node - 1) _ (omega arith) c.play.ensures kept.kept;
       within = omega arith;
-      won = played_from c.loop-node.nodes c.play.new.nodes c.args.slots c.loop-node.node (c.loop-node.node - 1) (omega (arith, kept.kept.len)) (omega arith) (omega arith) (omega arith) c.play.ensures kept.won;
+      won = played_from c.loop-node.nodes c.play.new.nodes c.args.slots c.loop-node.node (c.loop-node.node - 1) (omega (arith, kept.kept.len)) (omega arith) (omega arith) (omega arith) c.play.ensures
+          kept.won;
     }

@@ -8,5 +8,6 @@ loop-node-preserved c =
     record {
       kept = kept_from c.args.nodes.now c.loop-node.nodes c.play.new.nodes c.args.slots (c.loop-node.node / 2) _ (omega arith) c.play.ensures kept.kept;
       within = omega arith;
-      won = replayed c.loop-node.nodes c.play.new.nodes c.args.slots c.loop-node.node (c.loop-node.node / 2) (omega (arith, kept.kept.len)) (omega arith) (omega arith) (halved c.loop-node.node) c.play.ensures kept.won;
+      won = replayed c.loop-node.nodes c.play.new.nodes c.args.slots c.loop-node.node (c.loop-node.node / 2) (omega (arith, kept.kept.len)) (omega arith) (omega arith) (halved c.loop-node.node)
+          c.play.ensures kept.won;
     }

@@ -4,5 +4,6 @@ use Rattle.replay.proofs.recovery.recover_log.Goals as goal
 pub returns : goal.returns
 returns g c =
     let log = c.args.log in
-    runs_of_log c.args.catalog.now c.args.image log.version log.header log.records log.ending c.in_ok-check_start.ensures.ok c.in_ok-table.table c.place-from.result c.into_vec.result.items c.is_torn-torn.result c.run_again.result
+    runs_of_log c.args.catalog.now c.args.image log.version log.header log.records log.ending c.in_ok-check_start.ensures.ok c.in_ok-table.table c.place-from.result c.into_vec.result.items
+    c.is_torn-torn.result c.run_again.result
     c.in_ok-table.ensures c.place-from.ensures c.into_vec.ensures c.is_torn-torn.ensures c.run_again.ensures

@@ -1,6 +1,6 @@
 use Rattle.std.proofs.Common.{rules, ℕ, ◌≤◌, ◌≡◌, ◌+◌, List, [], ◌∷◌, Err, sym, ap, ◌∙◌, subst, arith, length}
 use Rattle.std.specs.Vec.Iter.{into_iter_items}
-use Rattle.commitlog.specs.declared.limits.TheConstants.{RECORDS}
+use Rattle.commitlog.specs.declared.limits.TheConstants.{LOG_RECORDS}
 use Rattle.commitlog.specs.Records.{Record, record_of}
 use Rattle.replay.specs.Parts.{RunAgain}
 use Rattle.replay.specs.Replays.{calls_in}
@@ -11,7 +11,8 @@ use Rattle.replay.proofs.recovery.run_again.Goals as goal
 pub loop-made-init : goal.loop-made-init
 loop-made-init g c =
     let all : into_iter_items c.into_iter-made-iterator.result ≡ c.args.records.items = search rules in
-    subst (λ (l : List Record). SoFar c.args.catalog.now c.args.table c.args.from c.args.records.items l c.args.table 0 0) (sym all) (at_first c.args.catalog.now c.args.table c.args.from c.args.records.items)
+    subst (λ (l : List Record). SoFar c.args.catalog.now c.args.table c.args.from c.args.records.items l c.args.table 0 0) (sym all)
+    (at_first c.args.catalog.now c.args.table c.args.from c.args.records.items)
 
 pub loop-made-preserved-then-at-from : goal.loop-made-preserved-then-at-from
 loop-made-preserved-then-at-from g c =
@@ -26,7 +27,7 @@ overflow_add-calls g c =
     let next : into_iter_items l.made-iterator ≡ c.in-Some.made ∷ into_iter_items c.next.new.self = search rules in
     let small = counts c.args.catalog.now c.args.table c.args.from c.args.records.items (into_iter_items l.made-iterator) l.table l.calls l.place l.invariant in
     let one = one_call (record_of c.into_entry-entry.result) in
-    let few : length c.args.records.items ≤ RECORDS = c.requires in
+    let few : length c.args.records.items ≤ LOG_RECORDS = c.requires in
     let given : c.calls_of.result ≡ calls_in (record_of c.into_entry-entry.result ∷ []) = c.calls_of.ensures in
     omega arith
 

@@ -2,8 +2,8 @@ use Rattle.std.proofs.Common.{◌≡◌, Option, IfOk, OnOk, Ok, Err, Result, sy
 use Rattle.procedure.specs.Bytes.{Bytes}
 use Rattle.record_store.specs.Stores.{Slots}
 use Rattle.steps.specs.Checkpointing.{visited}
-use Rattle.steps.specs.Edits.{given_of, versions_in}
-use Rattle.steps.proofs.Scanning.{given_found, given_none, visited_found, visited_none}
+use Rattle.steps.specs.Versions.{given_of, versions_in}
+use Rattle.steps.proofs.scans.ScanPlaces.{given_found, given_none, visited_found, visited_none}
 use Rattle.steps.proofs.captures.visit.Goals as goal
 
 on_ok : {X E : Type 0} {P Q : Type 0} (r : Result X E) → (P → Q) → OnOk r P → OnOk r Q

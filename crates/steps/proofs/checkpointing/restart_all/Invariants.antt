@@ -1,5 +1,5 @@
 use Rattle.std.proofs.Common.{◌≡◌, length, take, drop, map, option_map}
-use Rattle.steps.specs.CoreFields.{restarted_call}
+use Rattle.steps.specs.inside.CoreFields.{restarted_call}
 use Rattle.steps.proofs.checkpointing.restart_all.Given as goal
 
 abbrev pub invariant-loop-session : goal.invariant-loop-session

@@ -2,8 +2,8 @@ use Rattle.std.proofs.Common.{◌≡◌, ◌≤◌, ◌+◌, arith, ap, ◌∙�
 use Rattle.std.proofs.lemmas.List.{drop_more}
 use Rattle.record_store.specs.ChangedSets.{ChangedSets, has, count}
 use Rattle.steps.specs.declared.notes.Note.{Note}
-use Rattle.steps.specs.Edits.{first_noted, noted_of}
-use Rattle.steps.proofs.Edited.{collected_more, count-with_key}
+use Rattle.steps.specs.inside.RecordEdits.{first_noted, noted_of}
+use Rattle.steps.proofs.store.RecordEdits.{collected_more, count-with_key}
 use Rattle.steps.proofs.edits.collect.Goals as goal
 
 pub join-requires : goal.join-requires
@@ -19,7 +19,8 @@ loop-note-preserved g c =
     let left : List (Note g.row.A.Denot) = drop (i + 1) c.args.notes.now in
     let old : ChangedSets = c.loop-note.changed_keys in
     let more : length (drop i c.args.notes.now) ≡ length left + 1 = ap length (drop_more c.args.notes.now i n c.loop-note-test.true) ∙ omega arith in
-    let joined : count c.join.new.self.collecting ≤ count old.collecting + 1 = subst (λ (s : ChangedSets). count s.collecting ≤ count old.collecting + 1) (sym c.join.ensures) (count-with_key old.collecting n.key) in (
+    let joined : count c.join.new.self.collecting ≤ count old.collecting + 1 = subst (λ (s : ChangedSets). count s.collecting ≤ count old.collecting + 1) (sym c.join.ensures)
+    (count-with_key old.collecting n.key) in (
       λ q.
           ap (λ (s : ChangedSets). is_some (first_noted (map noted_of left) q) || has s.collecting q) c.join.ensures
           ∙ collected_more old.collecting (noted_of n) (map noted_of left) q

@@ -2,12 +2,13 @@ use Rattle.std.proofs.Common.{◌≡◌, ◌⊎◌, ℕ, true, inl, inr, sym, ap
 use Rattle.phase.specs.declared.phases.Phase.{Phase}
 use Rattle.phase.specs.declared.phases.Phase.TheVariants.{Resolve, Capture}
 use Rattle.record_store.specs.Stores.{Slots, changed, with_available}
-use Rattle.steps.specs.World.{copied}
-use Rattle.steps.specs.Edits.{edited}
-use Rattle.steps.proofs.Edited.{record_copied}
+use Rattle.steps.specs.Versions.{copied}
+use Rattle.steps.specs.inside.RecordEdits.{edited}
+use Rattle.steps.proofs.store.RecordEdits.{record_copied}
 use Rattle.steps.proofs.edits.copy_before_write.Goals as goal
 
-in_either : (start : Phase) (slots new : Slots) (slot : ℕ) → (start ≡ Resolve) ⊎ (start ≡ Capture) → new ≡ changed (edited (copied Resolve)) slots slot → new ≡ changed (edited (copied start)) slots slot
+in_either :
+    (start : Phase) (slots new : Slots) (slot : ℕ) → (start ≡ Resolve) ⊎ (start ≡ Capture) → new ≡ changed (edited (copied Resolve)) slots slot → new ≡ changed (edited (copied start)) slots slot
 in_either start slots new slot (inl e) is = subst (λ (p : Phase). new ≡ changed (edited (copied p)) slots slot) (sym e) is
 in_either start slots new slot (inr e) is = subst (λ (p : Phase). new ≡ changed (edited (copied p)) slots slot) (sym e) is
 

@@ -1,5 +1,5 @@
 use Rattle.std.proofs.Common.{is_some, ap, sym}
-use Rattle.steps.proofs.Edited.{found_in, none_in}
+use Rattle.steps.proofs.store.RecordEdits.{found_in, none_in}
 use Rattle.steps.proofs.edits.has_record.Goals as goal
 
 pub returns-in-Some : goal.returns-in-Some

@@ -1,9 +1,10 @@
 use Rattle.std.proofs.Common.{ap, ◌∙◌, sym, List, map, drop, ◌∷◌, ◌+◌}
 use Rattle.std.proofs.lemmas.List.{drop_more}
 use Rattle.steps.specs.declared.notes.Note.{Note}
-use Rattle.steps.specs.Edits.{all_kept, noted_of, versions_in}
-use Rattle.steps.proofs.Slots.{slots_then}
-use Rattle.steps.proofs.Edited.{kept_more}
+use Rattle.steps.specs.inside.RecordEdits.{all_kept, noted_of}
+use Rattle.steps.specs.Versions.{versions_in}
+use Rattle.steps.proofs.store.SlotEdits.{slots_then}
+use Rattle.steps.proofs.store.RecordEdits.{kept_more}
 use Rattle.steps.proofs.edits.keep_all.Goals as goal
 
 pub loop-note-preserved : goal.loop-note-preserved

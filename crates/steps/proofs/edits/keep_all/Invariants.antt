@@ -1,6 +1,7 @@
 use Rattle.std.proofs.Common.{◌≡◌, drop, length, map}
 use Rattle.procedure.specs.Bytes.{Bytes}
-use Rattle.steps.specs.Edits.{KeepsSlots, all_kept, noted_of, versions_in}
+use Rattle.steps.specs.inside.RecordEdits.{KeepsSlots, all_kept, noted_of}
+use Rattle.steps.specs.Versions.{versions_in}
 use Rattle.steps.proofs.edits.keep_all.Given as goal
 
 -- the writes that are left, kept from here on, end as all of them from the start

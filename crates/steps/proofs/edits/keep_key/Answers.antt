@@ -1,9 +1,9 @@
 use Rattle.std.proofs.Common.{ap, ◌∙◌, refl, sym, subst}
 use Rattle.record_store.specs.Stores.{Slots}
-use Rattle.steps.specs.Edits.{KeepsSlots, edited, versions_in}
-use Rattle.steps.specs.World.{kept}
-use Rattle.steps.proofs.Slots.{slots_changed, slots_same}
-use Rattle.steps.proofs.Edited.{versions_kept, none_kept}
+use Rattle.steps.specs.inside.RecordEdits.{KeepsSlots, edited}
+use Rattle.steps.specs.Versions.{versions_in, kept}
+use Rattle.steps.proofs.store.SlotEdits.{slots_changed, slots_same}
+use Rattle.steps.proofs.store.RecordEdits.{versions_kept, none_kept}
 use Rattle.steps.proofs.edits.keep_key.Goals as goal
 
 pub returns-in-Some-clause-versions : goal.returns-in-Some-clause-versions

@@ -1,8 +1,9 @@
 use Rattle.std.proofs.Common.{ap, ◌∙◌, refl, sym, subst}
 use Rattle.record_store.specs.Stores.{Slots}
-use Rattle.steps.specs.Edits.{KeepsSlots, edited, undone_version, versions_in}
-use Rattle.steps.proofs.Slots.{slots_changed, slots_same}
-use Rattle.steps.proofs.Edited.{versions_undone, none_undone}
+use Rattle.steps.specs.inside.RecordEdits.{KeepsSlots, edited, undone_version}
+use Rattle.steps.specs.Versions.{versions_in}
+use Rattle.steps.proofs.store.SlotEdits.{slots_changed, slots_same}
+use Rattle.steps.proofs.store.RecordEdits.{versions_undone, none_undone}
 use Rattle.steps.proofs.edits.undo_note.Goals as goal
 
 pub returns-in-Some-clause-versions : goal.returns-in-Some-clause-versions
@@ -14,7 +15,8 @@ returns-in-None-clause-versions g c q = none_undone c.args.note.before c.args.st
 
 pub returns-in-Some-clause-keys : goal.returns-in-Some-clause-keys
 returns-in-Some-clause-keys g c =
-    subst (λ (l : Slots). KeepsSlots c.args.store.now l) (sym c.undo_record.ensures) (slots_changed (edited (undone_version c.args.note.before)) (λ r. refl) (λ r is. is) c.args.store.now c.in-Some.slot)
+    subst (λ (l : Slots). KeepsSlots c.args.store.now l) (sym c.undo_record.ensures)
+    (slots_changed (edited (undone_version c.args.note.before)) (λ r. refl) (λ r is. is) c.args.store.now c.in-Some.slot)
 
 pub returns-in-None-clause-keys : goal.returns-in-None-clause-keys
 returns-in-None-clause-keys g c = slots_same c.args.store.now c.args.store.now refl

@@ -1,7 +1,7 @@
 use Rattle.std.proofs.Common.{ap, ◌∙◌, sym}
 use Rattle.record_store.specs.Stores.{Slots, changed, with_stable}
 use Rattle.record_store.specs.declared.records.Stable.TheVariants.{Empty}
-use Rattle.steps.proofs.Edited.{record_undone}
+use Rattle.steps.proofs.store.RecordEdits.{record_undone}
 use Rattle.steps.proofs.edits.undo_record.Goals as goal
 
 pub returns-then-not-available : goal.returns-then-not-available

@@ -3,10 +3,10 @@ use Rattle.record_store.specs.Stores.{Slots, changed, live_at, with_aside, with_
 use Rattle.procedure.specs.Bytes.{Bytes, Cell}
 use Rattle.record_store.specs.declared.stores.CreateError.{CreateError}
 use Rattle.record_store.specs.declared.stores.CreateError.TheVariants.{TableFull}
-use Rattle.steps.specs.World.{live_of}
-use Rattle.steps.specs.Edits.{KeepsSlots, versions_in, edited, written}
-use Rattle.steps.proofs.Slots.{slots_changed, slots_made}
-use Rattle.steps.proofs.Edited.{found_in, none_in, live_in, live_created, versions_aside, versions_written, versions_made}
+use Rattle.steps.specs.Versions.{live_version, versions_in}
+use Rattle.steps.specs.inside.RecordEdits.{KeepsSlots, edited, written_versions}
+use Rattle.steps.proofs.store.SlotEdits.{slots_changed, slots_made}
+use Rattle.steps.proofs.store.RecordEdits.{found_in, none_in, live_in, live_created, versions_aside, versions_written, versions_made}
 use Rattle.steps.proofs.edits.write_key.Goals as goal
 
 pub returns-in-Ok-clause-before : goal.returns-in-Ok-clause-before
@@ -31,12 +31,12 @@ pub returns-in-Ok-write_record-clause-before : goal.returns-in-Ok-write_record-c
 returns-in-Ok-write_record-clause-before g c =
     c.in-Ok-write_record.ensures.before ∙ ap (λ (l : Slots). live_at l c.in-Ok-create.slot) c.in-Ok-create.ensures.ok
     ∙ live_created c.args.store.now c.in-Ok-create.slot c.args.key c.is_late.result
-    ∙ sym (ap live_of (none_in c.args.store.now c.args.key c.in-None.ensures.found))
+    ∙ sym (ap live_version (none_in c.args.store.now c.args.key c.in-None.ensures.found))
 
 pub returns-in-Ok-write_record-clause-ok : goal.returns-in-Ok-write_record-clause-ok
 returns-in-Ok-write_record-clause-ok g c q =
     ap (λ (l : Slots). versions_in l q) c.reconsider.ensures ∙ versions_aside false c.write_record-in-Ok-create.new.store c.in-Ok-create.slot q
-    ∙ ap (λ (l : Slots). versions_in l q) (c.in-Ok-write_record.ensures.ok ∙ ap (λ (l : Slots). changed (edited (written c.args.start c.args.live)) l c.in-Ok-create.slot)
+    ∙ ap (λ (l : Slots). versions_in l q) (c.in-Ok-write_record.ensures.ok ∙ ap (λ (l : Slots). changed (edited (written_versions c.args.start c.args.live)) l c.in-Ok-create.slot)
     (c.in-Ok-create.ensures.ok ∙ ap (λ (b : Bool). with_record c.args.store.now c.in-Ok-create.slot (new_record c.args.key b)) c.is_late.ensures))
     ∙ versions_made c.args.phase c.args.start c.args.live c.args.store.now c.in-Ok-create.slot c.args.key q c.find.ensures.once c.in-Ok-create.ensures.vacant c.in-None.ensures.found
 
@@ -54,7 +54,8 @@ returns-in-Err-create-clause-full g c =
 
 pub returns-in-Ok-clause-keys : goal.returns-in-Ok-clause-keys
 returns-in-Ok-clause-keys g c =
-    subst (λ (l : Slots). KeepsSlots c.args.store.now l) (sym c.in-Ok.ensures.ok) (slots_changed (edited (written c.args.start c.args.live)) (λ r. refl) (λ r is. is) c.args.store.now c.in-Some.slot)
+    subst (λ (l : Slots). KeepsSlots c.args.store.now l) (sym c.in-Ok.ensures.ok)
+    (slots_changed (edited (written_versions c.args.start c.args.live)) (λ r. refl) (λ r is. is) c.args.store.now c.in-Some.slot)
 
 pub returns-in-Ok-write_record-clause-keys : goal.returns-in-Ok-write_record-clause-keys
 returns-in-Ok-write_record-clause-keys g c =
@@ -62,9 +63,9 @@ returns-in-Ok-write_record-clause-keys g c =
     (sym (
     c.reconsider.ensures
     ∙ ap (λ (l : Slots). changed (with_aside false) l c.in-Ok-create.slot)
-    (c.in-Ok-write_record.ensures.ok ∙ ap (λ (l : Slots). changed (edited (written c.args.start c.args.live)) l c.in-Ok-create.slot) c.in-Ok-create.ensures.ok)
+    (c.in-Ok-write_record.ensures.ok ∙ ap (λ (l : Slots). changed (edited (written_versions c.args.start c.args.live)) l c.in-Ok-create.slot) c.in-Ok-create.ensures.ok)
     ))
-    (slots_made (edited (written c.args.start c.args.live)) (λ r. refl) c.args.store.now c.in-Ok-create.slot (new_record c.args.key c.is_late.result) c.in-Ok-create.ensures.vacant)
+    (slots_made (edited (written_versions c.args.start c.args.live)) (λ r. refl) c.args.store.now c.in-Ok-create.slot (new_record c.args.key c.is_late.result) c.in-Ok-create.ensures.vacant)
 
 pub returns-in-Err-write_record-clause-keys : goal.returns-in-Err-write_record-clause-keys
 returns-in-Err-write_record-clause-keys g c =

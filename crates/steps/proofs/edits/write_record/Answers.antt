@@ -1,6 +1,6 @@
 use Rattle.std.proofs.Common.{ap, ◌∙◌}
 use Rattle.record_store.specs.Stores.{Slots, changed, with_live}
-use Rattle.steps.proofs.Edited.{record_written}
+use Rattle.steps.proofs.store.RecordEdits.{record_written}
 use Rattle.steps.proofs.edits.write_record.Goals as goal
 
 pub returns-clause-ok : goal.returns-clause-ok

@@ -21,7 +21,8 @@ loop-reply-preserved g c =
     let l = c.loop-reply in
     record {
       copied =
-          one_more l.copy.items c.push_reserved.new.self.items c.args.replies.now l.reply-index c.reply-item.result c.in_ok-copy_of.field-0 l.invariant.copied c.push_reserved.ensures.items c.loop-reply-test.true c.reply-item.is
+          one_more l.copy.items c.push_reserved.new.self.items c.args.replies.now l.reply-index c.reply-item.result c.in_ok-copy_of.field-0 l.invariant.copied c.push_reserved.ensures.items
+          c.loop-reply-test.true c.reply-item.is
           (c.in_ok-copy_of.ensures ∙ c.as_ref.ensures.value);
       room = subst (λ n. length c.args.replies.now ≤ n) (sym c.push_reserved.ensures.capacity) l.invariant.room;
     }

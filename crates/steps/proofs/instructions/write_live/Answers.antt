@@ -1,10 +1,10 @@
 use Rattle.std.proofs.Common.{◌++◌, ◌∷◌, [], List, map, ap, ◌∙◌, cond, refl}
 use Rattle.procedure.specs.Bytes.{same}
-use Rattle.steps.specs.Advances.{fed_with}
-use Rattle.steps.specs.Edits.{first_noted, noted_of}
-use Rattle.steps.specs.World.{note}
+use Rattle.steps.specs.inside.Instructions.{fed_with}
+use Rattle.steps.specs.inside.RecordEdits.{first_noted, noted_of}
+use Rattle.steps.specs.machine.Machine.{note}
 use Rattle.steps.specs.declared.notes.Note.{Note}
-use Rattle.steps.proofs.Advanced.{noted_push}
+use Rattle.steps.proofs.sessions.KeptInstructions.{noted_push}
 use Rattle.steps.proofs.instructions.write_live.Goals as goal
 
 pub returns-in-Ok-write_key-clause-ok : goal.returns-in-Ok-write_key-clause-ok

@@ -1,4 +1,4 @@
-use Rattle.steps.proofs.Visited.{scans_whole}
+use Rattle.steps.proofs.scans.VisitCounts.{scans_whole}
 use Rattle.steps.proofs.laws.scans_law.Goals as goal
 
 pub returns : goal.returns

@@ -1,7 +1,7 @@
 use Rattle.std.proofs.Common.{List, [], ap, ◌∙◌}
 use Rattle.image.specs.Images.{Entry}
-use Rattle.steps.specs.Edits.{versions_in}
-use Rattle.steps.specs.Openings.{opened_with}
+use Rattle.steps.specs.Versions.{versions_in}
+use Rattle.steps.specs.inside.RecordEdits.{opened_with}
 use Rattle.steps.proofs.open.build.Goals as goal
 
 pub core_of-requires-clause-store : goal.core_of-requires-clause-store

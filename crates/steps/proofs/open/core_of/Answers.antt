@@ -1,9 +1,9 @@
 use Rattle.std.proofs.Common.{[], ap, ◌∙◌, refl}
 use Rattle.phase.specs.declared.phases.Phase.TheVariants.{Rest}
 use Rattle.record_store.specs.ChangedSets.{ChangedSets}
-use Rattle.steps.specs.Edits.{versions_in}
+use Rattle.steps.specs.Versions.{versions_in}
 use Rattle.steps.specs.declared.reclaiming.Aside.TheVariants.{Unknown}
-use Rattle.steps.proofs.Opened.{opened_core, opened_view, versions_in-new, versions_opened}
+use Rattle.steps.proofs.views.OpenedCore.{opened_core, opened_view, versions_in-new, versions_opened}
 use Rattle.steps.proofs.open.core_of.Goals as goal
 
 pub invariant_of-result : goal.invariant_of-result
@@ -12,7 +12,8 @@ invariant_of-result g c =
     (ap (λ (s : ChangedSets). s.collecting) c.new-2.ensures) (ap (λ (s : ChangedSets). s.frozen) c.new-2.ensures) refl
     (λ q.
     c.requires.store q
-    ∙ versions_opened c.args.opening c.entries-entries.ensures.lawful c.requires.opening (versions_in []) versions_in-new q) c.len-records.ensures.most c.none.ensures.seen c.none.ensures.number c.none.ensures.finished refl
+    ∙ versions_opened c.args.opening c.entries-entries.ensures.lawful c.requires.opening
+    (versions_in []) versions_in-new q) c.len-records.ensures.most c.none.ensures.seen c.none.ensures.number c.none.ensures.finished refl
 
 pub returns : goal.returns
 returns g c =
@@ -34,4 +35,5 @@ returns g c =
     (ap (λ (s : ChangedSets). s.collecting) c.new-2.ensures) (ap (λ (s : ChangedSets). s.frozen) c.new-2.ensures) refl
     (λ q.
     c.requires.store q
-    ∙ versions_opened c.args.opening c.entries-entries.ensures.lawful c.requires.opening (versions_in []) versions_in-new q) c.len-records.ensures.most c.none.ensures.seen c.none.ensures.number c.none.ensures.finished refl
+    ∙ versions_opened c.args.opening c.entries-entries.ensures.lawful c.requires.opening
+    (versions_in []) versions_in-new q) c.len-records.ensures.most c.none.ensures.seen c.none.ensures.number c.none.ensures.finished refl

@@ -1,7 +1,7 @@
 use Rattle.std.proofs.Common.{◌≡◌, drop}
 use Rattle.procedure.specs.Bytes.{Bytes}
-use Rattle.steps.specs.Edits.{versions_in}
-use Rattle.steps.specs.Openings.{opened_with}
+use Rattle.steps.specs.Versions.{versions_in}
+use Rattle.steps.specs.inside.RecordEdits.{opened_with}
 use Rattle.steps.proofs.open.fill.Given as goal
 
 -- the entries that are left make of these versions what all of them make of the first ones

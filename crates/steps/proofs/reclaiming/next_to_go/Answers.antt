@@ -1,9 +1,9 @@
 use Rattle.std.proofs.Common.{◌≡◌, ap, ◌∙◌, length, true}
 use Rattle.record_store.specs.Stores.{Slots, key_at}
-use Rattle.steps.specs.Asides.{put_aside}
-use Rattle.steps.specs.Edits.{versions_in}
-use Rattle.steps.proofs.Candidates.{keys_stay, slots_stay}
-use Rattle.steps.proofs.Edited.{versions_aside}
+use Rattle.steps.specs.inside.SetAside.{put_aside}
+use Rattle.steps.specs.Versions.{versions_in}
+use Rattle.steps.proofs.reclaim.Candidates.{keys_stay, slots_stay}
+use Rattle.steps.proofs.store.RecordEdits.{versions_aside}
 use Rattle.steps.proofs.reclaiming.next_to_go.Goals as goal
 
 pub loop-slot-preserved : goal.loop-slot-preserved

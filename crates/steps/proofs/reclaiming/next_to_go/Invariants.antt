@@ -2,9 +2,9 @@ use Rattle.std.proofs.Common.{◌≡◌, ℕ, length}
 use Rattle.procedure.specs.Bytes.{Bytes}
 use Rattle.record_store.specs.ChangedSets.{has}
 use Rattle.record_store.specs.Stores.{key_at}
-use Rattle.steps.specs.Asides.{AsideIn, IsKnown}
-use Rattle.steps.specs.Edits.{versions_in}
-use Rattle.steps.proofs.Candidates.{candidates}
+use Rattle.steps.specs.inside.SetAside.{AsideIn, IsKnown}
+use Rattle.steps.specs.Versions.{versions_in}
+use Rattle.steps.proofs.reclaim.Candidates.{candidates}
 use Rattle.steps.proofs.reclaiming.next_to_go.Given as goal
 
 -- more records are set aside, and nothing else changes

@@ -1,9 +1,9 @@
 use Rattle.std.proofs.Common.{◌≢◌, ap, ◌∙◌, length, false, arith, below_more}
 use Rattle.record_store.specs.Stores.{Slots, key_at}
-use Rattle.steps.specs.Asides.{aside_at}
-use Rattle.steps.specs.Edits.{versions_in}
-use Rattle.steps.proofs.Candidates.{keys_stay, none_here, none_other, slots_stay}
-use Rattle.steps.proofs.Edited.{versions_aside}
+use Rattle.steps.specs.inside.SetAside.{aside_at}
+use Rattle.steps.specs.Versions.{versions_in}
+use Rattle.steps.proofs.reclaim.Candidates.{keys_stay, none_here, none_other, slots_stay}
+use Rattle.steps.proofs.store.RecordEdits.{versions_aside}
 use Rattle.steps.proofs.reclaiming.reconsider_all.Goals as goal
 
 pub loop-slot-preserved : goal.loop-slot-preserved

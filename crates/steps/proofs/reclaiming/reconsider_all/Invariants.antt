@@ -1,8 +1,8 @@
 use Rattle.std.proofs.Common.{◌≡◌, ℕ, ◌<◌, false, length}
 use Rattle.procedure.specs.Bytes.{Bytes}
 use Rattle.record_store.specs.Stores.{key_at}
-use Rattle.steps.specs.Asides.{aside_at}
-use Rattle.steps.specs.Edits.{versions_in}
+use Rattle.steps.specs.inside.SetAside.{aside_at}
+use Rattle.steps.specs.Versions.{versions_in}
 use Rattle.steps.proofs.reclaiming.reconsider_all.Given as goal
 
 abbrev pub invariant-loop-slot : goal.invariant-loop-slot

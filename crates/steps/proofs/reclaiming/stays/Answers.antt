@@ -1,9 +1,9 @@
 use Rattle.std.proofs.Common.{inr, subst, sym, ◌∙◌, true≢false}
 use Rattle.record_store.specs.ChangedSets.{has}
 use Rattle.record_store.specs.Stores.{Slots}
-use Rattle.steps.specs.Asides.{AsideIn}
+use Rattle.steps.specs.inside.SetAside.{AsideIn}
 use Rattle.steps.specs.declared.reclaiming.Aside.TheVariants.{CollectedOrLocked}
-use Rattle.steps.proofs.Candidates.{aside_more, either_reason, locked}
+use Rattle.steps.proofs.reclaim.Candidates.{aside_more, either_reason, locked}
 use Rattle.steps.proofs.reclaiming.stays.Goals as goal
 
 -- a locked key: what is known of the others is known still

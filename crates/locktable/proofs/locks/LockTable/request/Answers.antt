@@ -60,7 +60,8 @@ invariant_of-self-2 g c =
     let within = subst (λ n. s < n) (sym c.self.invariant.sessions) c.requires in
     let own = c.mode_of-held.ensures.value ∙ ap (λ locks. mode_of locks s k) (sym c.self.view_is) in
     let more : KeepsAsked c.mode_of-held.result mode → ⊥ = λ keeps. true≢false (sym (c.keeps_asked.ensures.1 keeps) ∙ c.if-keeps_asked.false) in
-    let changes = granted_as_asked holders held c.self.invariant c.get.result c.in-Some.holders s k mode c.get.ensures (λ keeps. more (subst (λ o. KeepsAsked o mode) (sym own) keeps)) c.in-Some.ensures.granted in
+    let changes = granted_as_asked holders held c.self.invariant c.get.result c.in-Some.holders s k mode c.get.ensures (λ keeps. more (subst (λ o. KeepsAsked o mode) (sym own) keeps))
+    c.in-Some.ensures.granted in
     sound_after holders held c.self.invariant c.take.new.holders c.take.new.own s k (Some c.in-Some.holders) (Some mode) c.requires c.in_ok-take.ensures.holders
     (entries_after held s c.index_mut-own.result.now within c.index_mut-own.ensures.value c.take.new.own k (Some mode) c.in_ok-take.ensures.own)
     changes
@@ -76,10 +77,13 @@ returns-clause-granted g c =
     let within = subst (λ n. s < n) (sym c.self.invariant.sessions) c.requires in
     let own = c.mode_of-held.ensures.value ∙ ap (λ locks. mode_of locks s k) (sym c.self.view_is) in
     let more : KeepsAsked c.mode_of-held.result mode → ⊥ = λ keeps. true≢false (sym (c.keeps_asked.ensures.1 keeps) ∙ c.if-keeps_asked.false) in
-    let changes = granted_as_asked holders held c.self.invariant c.get.result c.in-Some.holders s k mode c.get.ensures (λ keeps. more (subst (λ o. KeepsAsked o mode) (sym own) keeps)) c.in-Some.ensures.granted in
+    let changes = granted_as_asked holders held c.self.invariant c.get.result c.in-Some.holders s k mode c.get.ensures (λ keeps. more (subst (λ o. KeepsAsked o mode) (sym own) keeps))
+    c.in-Some.ensures.granted in
     locks_after holders held c.self.invariant c.take.new.holders c.take.new.own s k (Some c.in-Some.holders) (Some mode) c.requires c.in_ok-take.ensures.holders
     (entries_after held s c.index_mut-own.result.now within c.index_mut-own.ensures.value c.take.new.own k (Some mode) c.in_ok-take.ensures.own)
     changes
     (granted_is_held (get holders.entries k) c.in-Some.holders s mode changes)
     ∙ ap (λ locks. with_lock locks s k (Some mode)) c.self.view_is
-    ∙ ap (λ m. with_lock c.args.self.now s k (Some m)) (sym (asked_is_stronger (mode_of c.args.self.now s k) mode (λ keeps. more (subst (λ o. KeepsAsked o mode) (sym c.mode_of-held.ensures.value) keeps))))
+    ∙
+    ap (λ m. with_lock c.args.self.now s k (Some m))
+    (sym (asked_is_stronger (mode_of c.args.self.now s k) mode (λ keeps. more (subst (λ o. KeepsAsked o mode) (sym c.mode_of-held.ensures.value) keeps))))

@@ -12,5 +12,9 @@ returns-then-has_no_others c =
 pub returns-else-has_no_others : goal.returns-else-has_no_others
 returns-else-has_no_others c = (
   λ e. absurd (true≢false (sym e)),
-  λ h. absurd (true≢false (sym (c.has_no_others.ensures.1 ((may_leave c.self.inside.starts c.self.inside.counts c.self.invariant c.args.phase).1 (subst (λ (xs : Starts). MayLeave c.args.phase xs) (sym c.self.view_is) h))) ∙ c.if-has_no_others.false)),
+  λ h. absurd
+      (true≢false
+      (sym
+      (c.has_no_others.ensures.1 ((may_leave c.self.inside.starts c.self.inside.counts c.self.invariant c.args.phase).1 (subst (λ (xs : Starts). MayLeave c.args.phase xs) (sym c.self.view_is) h))) ∙
+      c.if-has_no_others.false)),
 )

@@ -1,5 +1,5 @@
 use Rattle.std.proofs.Common.{◌∙◌, None, ap, length, arith, ◌<◌, length-set, slice_set}
-use Rattle.phase.specs.Phases.{at_rest, Starts}
+use Rattle.phase.specs.Phases.{restarted_phase, Starts}
 use Rattle.phase.proofs.Counting.{same_here, more_done, less_rest, all_done}
 use Rattle.phase.proofs.open_calls.Active.restart.Goals as goal
 
@@ -13,11 +13,12 @@ loop-session-preserved c =
     let set = c.restart_call.ensures None in
     record {
       sessions = ap length set ∙ length-set now i _ ∙ kept.sessions;
-      done = more_done at_rest before now i within kept.sessions kept.done kept.rest None c.restart_call.new.self (set ∙ ap (λ x. slice_set now i (at_rest x)) (same_here at_rest before now i within kept.sessions kept.done kept.rest None));
-      rest = less_rest at_rest before now i within kept.sessions kept.done kept.rest _ c.restart_call.new.self set;
+      done = more_done restarted_phase before now i within kept.sessions kept.done kept.rest None c.restart_call.new.self
+          (set ∙ ap (λ x. slice_set now i (restarted_phase x)) (same_here restarted_phase before now i within kept.sessions kept.done kept.rest None));
+      rest = less_rest restarted_phase before now i within kept.sessions kept.done kept.rest _ c.restart_call.new.self set;
     }
 
 pub returns : goal.returns
 returns c =
     let kept = c.loop-session.invariant in
-    all_done at_rest c.args.self.now c.loop-session.self c.loop-session.session (omega arith) kept.sessions kept.done
+    all_done restarted_phase c.args.self.now c.loop-session.self c.loop-session.session (omega arith) kept.sessions kept.done

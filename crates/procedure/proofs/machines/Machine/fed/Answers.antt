@@ -114,7 +114,8 @@ invariant_of-self-in-Load g c =
     let room = c.self.invariant.room in
     record {
       within = next_within m.place (length m.code) (length m.replies.items) (vec_capacity m.replies) here room;
-      room = reply_room m.place (length m.code) (length m.replies.items) (vec_capacity m.replies) here room m.replies.items after.items c.in-Load.reply (vec_capacity after) (λ i. length m.replies.items) c.push_reserved.ensures.items
+      room = reply_room m.place (length m.code) (length m.replies.items) (vec_capacity m.replies) here room m.replies.items after.items c.in-Load.reply (vec_capacity after)
+          (λ i. length m.replies.items) c.push_reserved.ensures.items
           c.push_reserved.ensures.capacity;
     }
 

@@ -20,7 +20,8 @@ invariant_of-self g c =
     record {
       in_order = c.self.invariant.in_order;
       unique = c.add_key.ensures.unique;
-      within = joined_within (list_any (pointwise nat_eq c.args.key) keys) _ _ _ _ c.add_key.ensures.len (count-set_of keys c.self.invariant.unique) c.self.invariant.within (λ absent. room (has-set_of keys c.args.key ∙ absent));
+      within = joined_within (list_any (pointwise nat_eq c.args.key) keys) _ _ _ _ c.add_key.ensures.len (count-set_of keys c.self.invariant.unique) c.self.invariant.within
+          (λ absent. room (has-set_of keys c.args.key ∙ absent));
       room_to_collect = omega (arith, c.add_key.ensures.room, c.self.invariant.room_to_collect);
       room_to_freeze = c.self.invariant.room_to_freeze;
     }

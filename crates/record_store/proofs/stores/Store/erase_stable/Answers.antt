@@ -16,5 +16,6 @@ invariant_of-self g c =
 pub returns : goal.returns
 returns g c =
     let new : Inside g.row.A.Denot = record { slots = c.set_stable.new.slots; index = c.self.inside.index; dead = c.self.inside.dead; used = c.self.inside.used; number = c.self.inside.number } in
-    changed_view c.self.inside new (with_entry_stable None 0) (with_stable Empty) c.args.slot c.self.invariant (invariant_of-self g c) refl refl c.set_stable.ensures (λ e. seen_erased c.self.inside.number e c.self.invariant.number)
+    changed_view c.self.inside new (with_entry_stable None 0) (with_stable Empty) c.args.slot c.self.invariant (invariant_of-self g c) refl refl c.set_stable.ensures
+    (λ e. seen_erased c.self.inside.number e c.self.invariant.number)
     ∙ ap (λ (slots : Slots). changed (with_stable Empty) slots c.args.slot) c.self.view_is

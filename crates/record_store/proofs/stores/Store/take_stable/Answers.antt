@@ -11,14 +11,17 @@ use Rattle.record_store.proofs.stores.Store.take_stable.Goals as goal
 pub invariant_of-self : goal.invariant_of-self
 invariant_of-self g c =
     let new : Inside g.row.A.Denot = record { slots = c.take_stable.new.slots; index = c.self.inside.index; dead = c.self.inside.dead; used = c.self.inside.used; number = c.self.inside.number } in
-    changed_sound c.self.inside new (with_entry_stable None 0) c.args.slot c.self.invariant refl refl refl c.take_stable.ensures.changed refl (λ e. refl) (λ e m. record { mark = m.mark; copied = omega arith })
+    changed_sound c.self.inside new (with_entry_stable None 0) c.args.slot c.self.invariant refl refl refl c.take_stable.ensures.changed refl (λ e. refl)
+    (λ e m. record { mark = m.mark; copied = omega arith })
     (offers_kept c.self.inside new (with_entry_stable None 0) c.args.slot c.self.invariant c.take_stable.ensures.changed refl (λ e. refl))
 
 pub returns-clause-changed : goal.returns-clause-changed
 returns-clause-changed g c =
     let new : Inside g.row.A.Denot = record { slots = c.take_stable.new.slots; index = c.self.inside.index; dead = c.self.inside.dead; used = c.self.inside.used; number = c.self.inside.number } in
-    changed_view c.self.inside new (with_entry_stable None 0) (with_stable Empty) c.args.slot c.self.invariant (invariant_of-self g c) refl refl c.take_stable.ensures.changed (λ e. seen_erased c.self.inside.number e c.self.invariant.number)
+    changed_view c.self.inside new (with_entry_stable None 0) (with_stable Empty) c.args.slot c.self.invariant (invariant_of-self g c) refl refl c.take_stable.ensures.changed
+    (λ e. seen_erased c.self.inside.number e c.self.invariant.number)
     ∙ ap (λ (slots : Slots). changed (with_stable Empty) slots c.args.slot) c.self.view_is
 
 pub returns-clause-value : goal.returns-clause-value
-returns-clause-value g c = c.take_stable.ensures.stable ∙ sym (stable_seen_in c.self.inside.number (get c.self.inside.slots c.args.slot)) ∙ sym (ap stable_of (view_at c.self.inside c.self.invariant c.args.slot)) ∙ ap (λ (slots : Slots). stable_at slots c.args.slot) c.self.view_is
+returns-clause-value g c = c.take_stable.ensures.stable ∙ sym (stable_seen_in c.self.inside.number (get c.self.inside.slots c.args.slot)) ∙
+    sym (ap stable_of (view_at c.self.inside c.self.invariant c.args.slot)) ∙ ap (λ (slots : Slots). stable_at slots c.args.slot) c.self.view_is

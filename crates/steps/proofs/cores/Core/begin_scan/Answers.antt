@@ -1,7 +1,7 @@
 use Rattle.phase.specs.declared.phases.Phase.TheVariants.{Resolve}
-use Rattle.steps.proofs.Capturing.{begin_core, begin_view}
-use Rattle.steps.proofs.Entered.{same_core}
-use Rattle.steps.proofs.Leaving.{advances_from}
+use Rattle.steps.proofs.scans.CapturingCore.{begin_core, begin_view}
+use Rattle.steps.proofs.phases.AddedToken.{same_core}
+use Rattle.steps.proofs.phases.PhaseEnds.{advances_from}
 use Rattle.steps.proofs.cores.Core.begin_scan.Goals as goal
 
 pub invariant_of-self : goal.invariant_of-self
@@ -15,4 +15,5 @@ invariant_of-self-2 g c =
 pub returns-clause-ok : goal.returns-clause-ok
 returns-clause-ok g c =
     let free = advances_from c.self.inside c.self.invariant c.args.self.now c.self.view_is Resolve c.requires.phase c.requires.free in
-    begin_view c.self.inside c.self.invariant c.push_token.new.log c.places-bound.result c.clear.new.self free.is free.held c.in_ok-push_token.ensures.ok c.places-bound.ensures c.clear.ensures.items c.args.self.now c.self.view_is
+    begin_view c.self.inside c.self.invariant c.push_token.new.log c.places-bound.result c.clear.new.self free.is free.held c.in_ok-push_token.ensures.ok c.places-bound.ensures c.clear.ensures.items
+    c.args.self.now c.self.view_is

@@ -1,9 +1,9 @@
 use Rattle.std.proofs.Common.{ap, ◌∙◌}
 use Rattle.phase.specs.declared.phases.Phase.TheVariants.{Capture}
-use Rattle.steps.proofs.Capturing.{scan_here}
-use Rattle.steps.proofs.Completing.{complete_core, complete_view, made_lawful, same_image, same_lawful, same_once}
-use Rattle.steps.proofs.Entered.{same_core}
-use Rattle.steps.proofs.Leaving.{advances_from}
+use Rattle.steps.proofs.scans.CapturingCore.{scan_here}
+use Rattle.steps.proofs.scans.CompletedImage.{complete_core, complete_view, made_lawful, same_image, same_lawful, same_once}
+use Rattle.steps.proofs.phases.AddedToken.{same_core}
+use Rattle.steps.proofs.phases.PhaseEnds.{advances_from}
 use Rattle.steps.proofs.cores.Core.complete.Goals as goal
 
 pub invariant_of-self : goal.invariant_of-self
@@ -23,12 +23,16 @@ image_of-image-requires-clause-lawful g c =
 pub invariant_of-self-2 : goal.invariant_of-self-2
 invariant_of-self-2 g c =
     let free = advances_from c.self.inside c.self.invariant c.args.self.now c.self.view_is Capture c.requires.phase c.requires.free in
-    complete_core c.self.inside c.self.invariant free.is c.push_token.new.log c.clear_frozen.new.self c.replace-entries.new.dest c.image_of-image.result free.scanned c.in_ok-push_token.ensures.ok c.clear_frozen.ensures
-    (same_image c.self.inside.checkpoint c.replace-entries.result c.image_of-image.result c.image_of-image.ensures c.replace-entries.ensures.value) (ap (λ v. v.items) c.replace-entries.ensures.after ∙ c.new-empty.ensures.items)
+    complete_core c.self.inside c.self.invariant free.is c.push_token.new.log c.clear_frozen.new.self c.replace-entries.new.dest c.image_of-image.result free.scanned c.in_ok-push_token.ensures.ok
+    c.clear_frozen.ensures
+    (same_image c.self.inside.checkpoint c.replace-entries.result c.image_of-image.result c.image_of-image.ensures c.replace-entries.ensures.value)
+    (ap (λ v. v.items) c.replace-entries.ensures.after ∙ c.new-empty.ensures.items)
 
 pub returns-clause-ok : goal.returns-clause-ok
 returns-clause-ok g c =
     let free = advances_from c.self.inside c.self.invariant c.args.self.now c.self.view_is Capture c.requires.phase c.requires.free in
-    complete_view c.self.inside c.self.invariant free.is c.push_token.new.log c.clear_frozen.new.self c.replace-entries.new.dest c.image_of-image.result free.scanned c.in_ok-push_token.ensures.ok c.clear_frozen.ensures
-    (same_image c.self.inside.checkpoint c.replace-entries.result c.image_of-image.result c.image_of-image.ensures c.replace-entries.ensures.value) (ap (λ v. v.items) c.replace-entries.ensures.after ∙ c.new-empty.ensures.items)
+    complete_view c.self.inside c.self.invariant free.is c.push_token.new.log c.clear_frozen.new.self c.replace-entries.new.dest c.image_of-image.result free.scanned c.in_ok-push_token.ensures.ok
+    c.clear_frozen.ensures
+    (same_image c.self.inside.checkpoint c.replace-entries.result c.image_of-image.result c.image_of-image.ensures c.replace-entries.ensures.value)
+    (ap (λ v. v.items) c.replace-entries.ensures.after ∙ c.new-empty.ensures.items)
     c.args.self.now c.self.view_is

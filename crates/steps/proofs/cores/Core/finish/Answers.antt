@@ -4,36 +4,34 @@ use Rattle.std.specs.Vec.{with_item}
 use Rattle.std.proofs.lemmas.Bool.{eq-eqb}
 use Rattle.procedure.specs.Bytes.{Bytes}
 use Rattle.procedure.specs.declared.outcomes.TheConstants.{COMMITTED}
-use Rattle.commitlog.specs.Records.{IsInRange, Record, Call}
-use Rattle.commitlog.specs.declared.limits.TheConstants.{RECORDS}
+use Rattle.commitlog.specs.Records.{Record, Call}
+use Rattle.commitlog.specs.declared.limits.TheConstants.{LOG_RECORDS}
 use Rattle.locktable.specs.Locks.{without_locks}
 use Rattle.record_store.specs.ChangedSets.{KeySet, has}
-use Rattle.steps.specs.CoreFields.{IsCore, call_at, view_of}
+use Rattle.steps.specs.inside.CoreFields.{IsCore, call_at, view_of}
 use Rattle.steps.specs.CoreViews.{CoreView}
-use Rattle.steps.specs.Edits.{first_noted, noted_of}
+use Rattle.steps.specs.inside.RecordEdits.{first_noted, noted_of}
 use Rattle.steps.specs.declared.calls.OpenCall.{OpenCall}
-use Rattle.steps.proofs.Answered.{finish_core, finish_view, in_range}
-use Rattle.steps.proofs.Closed.{within}
-use Rattle.steps.proofs.Ready.{not_active, outcome_as, ready, roomy_core, roomy_view}
+use Rattle.steps.proofs.sessions.AnsweredCall.{finish_core, finish_view, in_range}
+use Rattle.steps.proofs.sessions.EndedCall.{within}
+use Rattle.steps.proofs.sessions.CallProgress.{not_active, outcome_as, ready, roomy_core, roomy_view}
 use Rattle.steps.proofs.cores.Core.finish.Goals as goal
 
-pub record_of-requires : goal.record_of-requires
-record_of-requires g c =
+pub end_call-requires-clause-range : goal.end_call-requires-clause-range
+end_call-requires-clause-range g c =
     let is : call_at c.self.inside c.args.session ≡ Some c.in-Some.call = ap (call_at c.self.inside) (sym c.from-index.ensures) ∙ sym c.in-Some.ensures.value in
     let outcome = outcome_as c.self.inside c.self.invariant c.args.self.now c.self.view_is c.args.session c.in-Some.call c.in_ok-outcome.outcome is c.in_ok-outcome.ensures.outcome in
-    let range = in_range c.self.inside c.self.invariant c.args.session c.in-Some.call is c.in_ok-outcome.outcome outcome in
-    subst (λ args. IsInRange (Call c.args.session c.in-Some.call.number c.in-Some.call.procedure args c.in_ok-outcome.outcome c.into_parts-args.result.1)) (sym c.into_parts-args.ensures.args)
-    (subst (λ replies. IsInRange (Call c.args.session c.in-Some.call.number c.in-Some.call.procedure c.in-Some.call.machine.args c.in_ok-outcome.outcome replies)) (sym c.into_parts-args.ensures.replies) range)
+    in_range c.self.inside c.self.invariant c.args.session c.in-Some.call is c.in_ok-outcome.outcome outcome
 
 pub invariant_of-self : goal.invariant_of-self
 invariant_of-self g c =
     roomy_core c.self.inside c.self.invariant c.make_room.new.log c.make_room.new.changed c.make_room.ensures.records c.make_room.ensures.collecting c.make_room.ensures.frozen
 
-pub append-requires-clause-not_full : goal.append-requires-clause-not_full
-append-requires-clause-not_full g c =
+pub end_call-requires-clause-not_full : goal.end_call-requires-clause-not_full
+end_call-requires-clause-not_full g c =
     let is : call_at c.self.inside c.args.session ≡ Some c.in-Some.call = ap (call_at c.self.inside) (sym c.from-index.ensures) ∙ sym c.in-Some.ensures.value in
     let done = ready c.self.inside c.self.invariant c.args.self.now c.self.view_is c.args.session c.in-Some.call is c.in_ok-outcome.ensures.refusal in
-    λ e. true≢false (sym (eq-eqb (length c.args.self.now.log) RECORDS (ap (λ (v : CoreView). length v.log) (sym c.self.view_is) ∙ ap length (sym c.make_room.ensures.records) ∙ e)) ∙ done.1)
+    λ e. true≢false (sym (eq-eqb (length c.args.self.now.log) LOG_RECORDS (ap (λ (v : CoreView). length v.log) (sym c.self.view_is) ∙ ap length (sym c.make_room.ensures.records) ∙ e)) ∙ done.1)
 
 pub release_all-requires : goal.release_all-requires
 release_all-requires g c =
@@ -55,24 +53,24 @@ invariant_of-self-in-Some g c =
     let is : call_at c.self.inside c.args.session ≡ Some c.in-Some.call = ap (call_at c.self.inside) (sym c.from-index.ensures) ∙ sym c.in-Some.ensures.value in
     let outcome = outcome_as c.self.inside c.self.invariant c.args.self.now c.self.view_is c.args.session c.in-Some.call c.in_ok-outcome.outcome is c.in_ok-outcome.ensures.outcome in
     let done = ready c.self.inside c.self.invariant c.args.self.now c.self.view_is c.args.session c.in-Some.call is c.in_ok-outcome.ensures.refusal in
-    let said : c.record_of.result ≡ Call c.args.session c.in-Some.call.number c.in-Some.call.procedure c.in-Some.call.machine.args c.in_ok-outcome.outcome c.in-Some.call.machine.progress.replies =
-    c.record_of.ensures
-    ∙ ap (λ l. Call c.args.session c.in-Some.call.number c.in-Some.call.procedure l c.in_ok-outcome.outcome c.into_parts-args.result.1) c.into_parts-args.ensures.args
-    ∙ ap (λ l. Call c.args.session c.in-Some.call.number c.in-Some.call.procedure c.in-Some.call.machine.args c.in_ok-outcome.outcome l) c.into_parts-args.ensures.replies in
-    let log_is = c.append.ensures ∙ ap (λ (l : List Record). l ++ c.record_of.result ∷ []) c.make_room.ensures.records ∙ ap (λ r. c.self.inside.log.records ++ r ∷ []) said in
+    let log_is = c.end_call.ensures.log ∙ ap (λ (l : List Record). l ++ Call c.args.session c.in-Some.call.number c.in-Some.call.procedure c.in-Some.call.machine.args c.in_ok-outcome.outcome
+    c.in-Some.call.machine.progress.replies ∷ []) c.make_room.ensures.records in
     let calls_are = c.in-Some.ensures.some ∙ ap (λ i. slice_set c.self.inside.calls.items i None) c.from-index.ensures in
-    let collecting : (q : Bytes) → has c.settle.new.changed.collecting q ≡ cond (c.in_ok-outcome.outcome == COMMITTED) (is_some (first_noted (map noted_of c.in-Some.call.notes.items) q) || has c.self.inside.changed.collecting q) (has c.self.inside.changed.collecting q) =
-    λ q. c.settle.ensures.collecting q ∙ ap (λ (k : KeySet). cond (c.in_ok-outcome.outcome == COMMITTED) (is_some (first_noted (map noted_of c.in-Some.call.notes.items) q) || has k q) (has k q)) c.make_room.ensures.collecting in
-    let frozen = c.settle.ensures.frozen ∙ c.make_room.ensures.frozen in
+    let collecting = λ (q : Bytes). c.end_call.ensures.collecting q ∙ ap (λ (k : KeySet). cond (c.in_ok-outcome.outcome == COMMITTED)
+    (is_some (first_noted (map noted_of c.in-Some.call.notes.items) q) || has k q) (has k q)) c.make_room.ensures.collecting in
+    let frozen = c.end_call.ensures.frozen ∙ c.make_room.ensures.frozen in
     let locks_are = c.release_all.ensures ∙ ap (without_locks c.self.inside.locks) c.from-index.ensures in
     let starts = c.clear.ensures ∙ ap (λ i. slice_set c.self.inside.active i None) c.from-index.ensures in
     let last_is = ap (λ i. slice_set c.self.inside.last.items i (Some c.in-Some.call.number)) c.from-index.ensures in
     let last = with_item c.self.inside.last c.from-index.result (Some c.in-Some.call.number) in
-    finish_core c.self.inside c.self.invariant c.args.session c.in-Some.call is c.append.new.log c.settle.new.store c.release_all.new.self c.settle.new.changed c.taken.new.calls c.clear.new.self last c.after_release-self-inside.result c.in_ok-outcome.outcome outcome done.0 log_is calls_are c.settle.ensures.versions collecting frozen locks_are starts last_is c.settle.ensures.most c.settle.ensures.keys c.after_release-self-inside.ensures
+    finish_core c.self.inside c.self.invariant c.args.session c.in-Some.call is c.end_call.new.log c.end_call.new.store c.release_all.new.self c.end_call.new.changed c.taken.new.calls c.clear.new.self
+    last c.after_release-self-inside.result c.in_ok-outcome.outcome outcome done.0 log_is calls_are c.end_call.ensures.versions collecting frozen locks_are starts last_is c.end_call.ensures.most
+    c.end_call.ensures.keys c.after_release-self-inside.ensures
 
 pub invariant_of-self-in-None-1 : goal.invariant_of-self-in-None-1
 invariant_of-self-in-None-1 g c =
-    subst (λ (calls : Vec (Option (OpenCall g.row.A.Denot)) g.row.A.Denot). IsCore (record c.self.inside { log = c.make_room.new.log; changed = c.make_room.new.changed; calls = calls })) (sym (c.in-None.ensures.none refl))
+    subst (λ (calls : Vec (Option (OpenCall g.row.A.Denot)) g.row.A.Denot). IsCore (record c.self.inside { log = c.make_room.new.log; changed = c.make_room.new.changed; calls = calls }))
+    (sym (c.in-None.ensures.none refl))
     (roomy_core c.self.inside c.self.invariant c.make_room.new.log c.make_room.new.changed c.make_room.ensures.records c.make_room.ensures.collecting c.make_room.ensures.frozen)
 
 pub returns-in-Some-clause-finished : goal.returns-in-Some-clause-finished
@@ -80,20 +78,19 @@ returns-in-Some-clause-finished g c =
     let is : call_at c.self.inside c.args.session ≡ Some c.in-Some.call = ap (call_at c.self.inside) (sym c.from-index.ensures) ∙ sym c.in-Some.ensures.value in
     let outcome = outcome_as c.self.inside c.self.invariant c.args.self.now c.self.view_is c.args.session c.in-Some.call c.in_ok-outcome.outcome is c.in_ok-outcome.ensures.outcome in
     let done = ready c.self.inside c.self.invariant c.args.self.now c.self.view_is c.args.session c.in-Some.call is c.in_ok-outcome.ensures.refusal in
-    let said : c.record_of.result ≡ Call c.args.session c.in-Some.call.number c.in-Some.call.procedure c.in-Some.call.machine.args c.in_ok-outcome.outcome c.in-Some.call.machine.progress.replies =
-    c.record_of.ensures
-    ∙ ap (λ l. Call c.args.session c.in-Some.call.number c.in-Some.call.procedure l c.in_ok-outcome.outcome c.into_parts-args.result.1) c.into_parts-args.ensures.args
-    ∙ ap (λ l. Call c.args.session c.in-Some.call.number c.in-Some.call.procedure c.in-Some.call.machine.args c.in_ok-outcome.outcome l) c.into_parts-args.ensures.replies in
-    let log_is = c.append.ensures ∙ ap (λ (l : List Record). l ++ c.record_of.result ∷ []) c.make_room.ensures.records ∙ ap (λ r. c.self.inside.log.records ++ r ∷ []) said in
+    let log_is = c.end_call.ensures.log ∙ ap (λ (l : List Record). l ++ Call c.args.session c.in-Some.call.number c.in-Some.call.procedure c.in-Some.call.machine.args c.in_ok-outcome.outcome
+    c.in-Some.call.machine.progress.replies ∷ []) c.make_room.ensures.records in
     let calls_are = c.in-Some.ensures.some ∙ ap (λ i. slice_set c.self.inside.calls.items i None) c.from-index.ensures in
-    let collecting : (q : Bytes) → has c.settle.new.changed.collecting q ≡ cond (c.in_ok-outcome.outcome == COMMITTED) (is_some (first_noted (map noted_of c.in-Some.call.notes.items) q) || has c.self.inside.changed.collecting q) (has c.self.inside.changed.collecting q) =
-    λ q. c.settle.ensures.collecting q ∙ ap (λ (k : KeySet). cond (c.in_ok-outcome.outcome == COMMITTED) (is_some (first_noted (map noted_of c.in-Some.call.notes.items) q) || has k q) (has k q)) c.make_room.ensures.collecting in
-    let frozen = c.settle.ensures.frozen ∙ c.make_room.ensures.frozen in
+    let collecting = λ (q : Bytes). c.end_call.ensures.collecting q ∙ ap (λ (k : KeySet). cond (c.in_ok-outcome.outcome == COMMITTED)
+    (is_some (first_noted (map noted_of c.in-Some.call.notes.items) q) || has k q) (has k q)) c.make_room.ensures.collecting in
+    let frozen = c.end_call.ensures.frozen ∙ c.make_room.ensures.frozen in
     let locks_are = c.release_all.ensures ∙ ap (without_locks c.self.inside.locks) c.from-index.ensures in
     let starts = c.clear.ensures ∙ ap (λ i. slice_set c.self.inside.active i None) c.from-index.ensures in
     let last_is = ap (λ i. slice_set c.self.inside.last.items i (Some c.in-Some.call.number)) c.from-index.ensures in
     let last = with_item c.self.inside.last c.from-index.result (Some c.in-Some.call.number) in
-    finish_view c.self.inside c.self.invariant c.args.session c.in-Some.call is c.append.new.log c.settle.new.store c.release_all.new.self c.settle.new.changed c.taken.new.calls c.clear.new.self last c.after_release-self-inside.result c.in_ok-outcome.outcome outcome done.0 log_is calls_are c.settle.ensures.versions collecting frozen locks_are starts last_is c.settle.ensures.most c.settle.ensures.keys c.after_release-self-inside.ensures c.settle.ensures.slots c.args.self.now c.self.view_is
+    finish_view c.self.inside c.self.invariant c.args.session c.in-Some.call is c.end_call.new.log c.end_call.new.store c.release_all.new.self c.end_call.new.changed c.taken.new.calls c.clear.new.self
+    last c.after_release-self-inside.result c.in_ok-outcome.outcome outcome done.0 log_is calls_are c.end_call.ensures.versions collecting frozen locks_are starts last_is c.end_call.ensures.most
+    c.end_call.ensures.keys c.after_release-self-inside.ensures c.end_call.ensures.slots c.args.self.now c.self.view_is
 
 pub returns-in-Some-clause-answer : goal.returns-in-Some-clause-answer
 returns-in-Some-clause-answer g c =
@@ -105,7 +102,8 @@ returns-in-Some-clause-answer g c =
 
 pub returns-in-None-clause-refused : goal.returns-in-None-clause-refused
 returns-in-None-clause-refused g c =
-    ap (λ (calls : Vec (Option (OpenCall g.row.A.Denot)) g.row.A.Denot). view_of (record c.self.inside { log = c.make_room.new.log; changed = c.make_room.new.changed; calls = calls })) (c.in-None.ensures.none refl)
+    ap (λ (calls : Vec (Option (OpenCall g.row.A.Denot)) g.row.A.Denot). view_of (record c.self.inside { log = c.make_room.new.log; changed = c.make_room.new.changed; calls = calls }))
+    (c.in-None.ensures.none refl)
     ∙ roomy_view c.self.inside c.args.self.now c.self.view_is c.make_room.new.log c.make_room.new.changed c.make_room.ensures.records
 
 pub returns-in-None-clause-refusal : goal.returns-in-None-clause-refusal

@@ -1,7 +1,7 @@
 use Rattle.std.proofs.Common.{◌∙◌, sym, ap}
-use Rattle.steps.specs.CoreFields.{view_of}
+use Rattle.steps.specs.inside.CoreFields.{view_of}
 use Rattle.steps.specs.Refusals.{is_scanning}
-use Rattle.steps.proofs.Refusing.{not_scanning, scanning_here}
+use Rattle.steps.proofs.phases.CheckpointRefusals.{not_scanning, scanning_here}
 use Rattle.steps.proofs.cores.Core.is_scanning.Goals as goal
 
 pub returns-in-Capture : goal.returns-in-Capture

@@ -1,7 +1,7 @@
 use Rattle.std.proofs.Common.{ap, ◌∙◌}
 use Rattle.commitlog.specs.Histories.{phase_of}
 use Rattle.steps.specs.CoreViews.{CoreView}
-use Rattle.steps.proofs.Standing.{phase_is}
+use Rattle.steps.proofs.views.CoreState.{phase_is}
 use Rattle.steps.proofs.cores.Core.phase.Goals as goal
 
 pub returns : goal.returns

@@ -2,8 +2,8 @@ use Rattle.std.proofs.Common.{ap, ◌∙◌}
 use Rattle.commitlog.specs.Histories.{phase_of}
 use Rattle.record_store.specs.ChangedSets.{has}
 use Rattle.steps.specs.CoreViews.{CoreView}
-use Rattle.steps.proofs.Reclaimed.{none_core, none_key, nothing_gone, reasons_here, some_core, some_key, some_view}
-use Rattle.steps.proofs.Standing.{phase_is}
+use Rattle.steps.proofs.reclaim.ReclaimedCore.{learnt_by, none_core, none_key, nothing_gone, reasons_here, some_core, some_key, some_view}
+use Rattle.steps.proofs.views.CoreState.{phase_is}
 use Rattle.steps.proofs.cores.Core.reclaim.Goals as goal
 
 pub returns-in_default : goal.returns-in_default
@@ -18,64 +18,37 @@ next_to_go-requires-clause-reasons g c = c.learn.ensures.reasons (has c.self.ins
 pub invariant_of-self : goal.invariant_of-self
 invariant_of-self g c =
     some_core c.self.inside c.self.invariant c.in-Rest.is c.next_to_go.new.store c.next_to_go.new.aside
-    record {
-      known = c.next_to_go.ensures.known;
-      reasons = c.next_to_go.ensures.reasons;
-      once = c.next_to_go.ensures.once;
-      slots = c.next_to_go.ensures.slots ∙ c.learn.ensures.slots;
-      keys = λ i. c.next_to_go.ensures.keys i ∙ c.learn.ensures.keys i;
-      versions = λ q. c.next_to_go.ensures.versions q ∙ c.learn.ensures.versions q;
-    }
-    c.args.self.now c.self.view_is c.in-Some.found.0 c.in-Some.found.1 c.in-Some.ensures.least c.in-Some.ensures.key c.in-Some.ensures.uncollected c.in-Some.ensures.free c.reclaim.new.self c.reclaim.ensures
+    (learnt_by c.self.inside c.self.invariant c.in-Rest.is c.next_to_go.new.store c.next_to_go.new.aside c.learn.new.store c.next_to_go.ensures.known c.next_to_go.ensures.reasons
+    c.next_to_go.ensures.once c.next_to_go.ensures.slots c.next_to_go.ensures.keys c.next_to_go.ensures.versions c.learn.ensures.slots c.learn.ensures.keys c.learn.ensures.versions)
+    c.args.self.now c.self.view_is c.in-Some.found.0 c.in-Some.found.1 c.in-Some.ensures.least c.in-Some.ensures.key c.in-Some.ensures.uncollected c.in-Some.ensures.free c.reclaim.new.self
+    c.reclaim.ensures
 
 pub invariant_of-self-in-None : goal.invariant_of-self-in-None
 invariant_of-self-in-None g c =
     none_core c.self.inside c.self.invariant c.in-Rest.is c.next_to_go.new.store c.next_to_go.new.aside
-    record {
-      known = c.next_to_go.ensures.known;
-      reasons = c.next_to_go.ensures.reasons;
-      once = c.next_to_go.ensures.once;
-      slots = c.next_to_go.ensures.slots ∙ c.learn.ensures.slots;
-      keys = λ i. c.next_to_go.ensures.keys i ∙ c.learn.ensures.keys i;
-      versions = λ q. c.next_to_go.ensures.versions q ∙ c.learn.ensures.versions q;
-    }
+    (learnt_by c.self.inside c.self.invariant c.in-Rest.is c.next_to_go.new.store c.next_to_go.new.aside c.learn.new.store c.next_to_go.ensures.known c.next_to_go.ensures.reasons
+    c.next_to_go.ensures.once c.next_to_go.ensures.slots c.next_to_go.ensures.keys c.next_to_go.ensures.versions c.learn.ensures.slots c.learn.ensures.keys c.learn.ensures.versions)
     c.args.self.now c.self.view_is
 
 pub returns-in-Some-clause-key : goal.returns-in-Some-clause-key
 returns-in-Some-clause-key g c =
     some_key c.self.inside c.self.invariant c.in-Rest.is c.next_to_go.new.store c.next_to_go.new.aside
-    record {
-      known = c.next_to_go.ensures.known;
-      reasons = c.next_to_go.ensures.reasons;
-      once = c.next_to_go.ensures.once;
-      slots = c.next_to_go.ensures.slots ∙ c.learn.ensures.slots;
-      keys = λ i. c.next_to_go.ensures.keys i ∙ c.learn.ensures.keys i;
-      versions = λ q. c.next_to_go.ensures.versions q ∙ c.learn.ensures.versions q;
-    }
-    c.args.self.now c.self.view_is c.in-Some.found.0 c.in-Some.found.1 c.in-Some.ensures.least c.in-Some.ensures.key c.in-Some.ensures.uncollected c.in-Some.ensures.free c.reclaim.new.self c.reclaim.ensures
+    (learnt_by c.self.inside c.self.invariant c.in-Rest.is c.next_to_go.new.store c.next_to_go.new.aside c.learn.new.store c.next_to_go.ensures.known c.next_to_go.ensures.reasons
+    c.next_to_go.ensures.once c.next_to_go.ensures.slots c.next_to_go.ensures.keys c.next_to_go.ensures.versions c.learn.ensures.slots c.learn.ensures.keys c.learn.ensures.versions)
+    c.args.self.now c.self.view_is c.in-Some.found.0 c.in-Some.found.1 c.in-Some.ensures.least c.in-Some.ensures.key c.in-Some.ensures.uncollected c.in-Some.ensures.free c.reclaim.new.self
+    c.reclaim.ensures
 
 pub returns-in-Some-clause-reclaimed : goal.returns-in-Some-clause-reclaimed
 returns-in-Some-clause-reclaimed g c =
     some_view c.self.inside c.self.invariant c.in-Rest.is c.next_to_go.new.store c.next_to_go.new.aside
-    record {
-      known = c.next_to_go.ensures.known;
-      reasons = c.next_to_go.ensures.reasons;
-      once = c.next_to_go.ensures.once;
-      slots = c.next_to_go.ensures.slots ∙ c.learn.ensures.slots;
-      keys = λ i. c.next_to_go.ensures.keys i ∙ c.learn.ensures.keys i;
-      versions = λ q. c.next_to_go.ensures.versions q ∙ c.learn.ensures.versions q;
-    }
-    c.args.self.now c.self.view_is c.in-Some.found.0 c.in-Some.found.1 c.in-Some.ensures.least c.in-Some.ensures.key c.in-Some.ensures.uncollected c.in-Some.ensures.free c.reclaim.new.self c.reclaim.ensures
+    (learnt_by c.self.inside c.self.invariant c.in-Rest.is c.next_to_go.new.store c.next_to_go.new.aside c.learn.new.store c.next_to_go.ensures.known c.next_to_go.ensures.reasons
+    c.next_to_go.ensures.once c.next_to_go.ensures.slots c.next_to_go.ensures.keys c.next_to_go.ensures.versions c.learn.ensures.slots c.learn.ensures.keys c.learn.ensures.versions)
+    c.args.self.now c.self.view_is c.in-Some.found.0 c.in-Some.found.1 c.in-Some.ensures.least c.in-Some.ensures.key c.in-Some.ensures.uncollected c.in-Some.ensures.free c.reclaim.new.self
+    c.reclaim.ensures
 
 pub returns-in-None-clause-key : goal.returns-in-None-clause-key
 returns-in-None-clause-key g c =
     none_key c.self.inside c.self.invariant c.in-Rest.is c.next_to_go.new.store c.next_to_go.new.aside
-    record {
-      known = c.next_to_go.ensures.known;
-      reasons = c.next_to_go.ensures.reasons;
-      once = c.next_to_go.ensures.once;
-      slots = c.next_to_go.ensures.slots ∙ c.learn.ensures.slots;
-      keys = λ i. c.next_to_go.ensures.keys i ∙ c.learn.ensures.keys i;
-      versions = λ q. c.next_to_go.ensures.versions q ∙ c.learn.ensures.versions q;
-    }
+    (learnt_by c.self.inside c.self.invariant c.in-Rest.is c.next_to_go.new.store c.next_to_go.new.aside c.learn.new.store c.next_to_go.ensures.known c.next_to_go.ensures.reasons
+    c.next_to_go.ensures.once c.next_to_go.ensures.slots c.next_to_go.ensures.keys c.next_to_go.ensures.versions c.learn.ensures.slots c.learn.ensures.keys c.learn.ensures.versions)
     c.args.self.now c.self.view_is c.in-None.ensures.least

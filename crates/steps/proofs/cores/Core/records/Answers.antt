@@ -2,7 +2,7 @@ use Rattle.std.proofs.Common.{subst}
 use Rattle.commitlog.specs.Histories.{IsCyclic, IsLegal, IsOrderly}
 use Rattle.image.specs.Merges.{table_of}
 use Rattle.steps.specs.CoreViews.{CoreView, IsSmall}
-use Rattle.steps.proofs.Standing.{history}
+use Rattle.steps.proofs.views.CoreState.{history}
 use Rattle.steps.proofs.cores.Core.records.Goals as goal
 
 pub returns-clause-legal : goal.returns-clause-legal

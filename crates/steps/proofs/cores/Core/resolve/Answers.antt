@@ -1,9 +1,9 @@
 use Rattle.std.proofs.Common.{ap}
 use Rattle.phase.specs.declared.phases.Phase.TheVariants.{Prepare}
 use Rattle.record_store.specs.ChangedSets.{ChangedSets}
-use Rattle.steps.proofs.Entered.{same_core}
-use Rattle.steps.proofs.Leaving.{advances_from}
-use Rattle.steps.proofs.Phased.{resolve_core, resolve_view}
+use Rattle.steps.proofs.phases.AddedToken.{same_core}
+use Rattle.steps.proofs.phases.PhaseEnds.{advances_from}
+use Rattle.steps.proofs.phases.ResolveAndRest.{resolve_core, resolve_view}
 use Rattle.steps.proofs.cores.Core.resolve.Goals as goal
 
 pub invariant_of-self : goal.invariant_of-self

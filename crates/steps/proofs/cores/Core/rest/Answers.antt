@@ -1,7 +1,7 @@
 use Rattle.phase.specs.declared.phases.Phase.TheVariants.{Complete}
-use Rattle.steps.proofs.Entered.{same_core}
-use Rattle.steps.proofs.Leaving.{advances_from}
-use Rattle.steps.proofs.Phased.{rest_core, rest_view}
+use Rattle.steps.proofs.phases.AddedToken.{same_core}
+use Rattle.steps.proofs.phases.PhaseEnds.{advances_from}
+use Rattle.steps.proofs.phases.ResolveAndRest.{rest_core, rest_view}
 use Rattle.steps.proofs.cores.Core.rest.Goals as goal
 
 pub invariant_of-self : goal.invariant_of-self

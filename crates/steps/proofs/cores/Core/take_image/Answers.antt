@@ -3,7 +3,7 @@ use Rattle.image.specs.Images.{Image}
 use Rattle.image.specs.Merges.{table_of}
 use Rattle.steps.specs.CoreViews.{CoreView}
 use Rattle.steps.specs.CutImages.{IsTaken}
-use Rattle.steps.proofs.Taking.{each_some, take_core, waiting_taken}
+use Rattle.steps.proofs.phases.TakenImage.{each_some, take_core, waiting_taken}
 use Rattle.steps.proofs.cores.Core.take_image.Goals as goal
 
 pub invariant_of-self : goal.invariant_of-self

@@ -1,15 +1,15 @@
 use Rattle.std.proofs.Common.{option_map, sym, ap, ◌∙◌}
-use Rattle.record_store.specs.Stores.{Record}
+use Rattle.record_store.specs.Stores.{StoreRecord}
 use Rattle.record_store.specs.Versions as stored
 use Rattle.steps.specs.CoreViews.{CoreView}
-use Rattle.steps.specs.Edits.{shown, versions_in}
-use Rattle.steps.proofs.Edited.{found_in, none_in}
+use Rattle.steps.specs.Versions.{key_versions, versions_in}
+use Rattle.steps.proofs.store.RecordEdits.{found_in, none_in}
 use Rattle.steps.proofs.cores.Core.versions.Goals as goal
 
 pub returns-in-Some : goal.returns-in-Some
 returns-in-Some g c =
     let found = found_in c.self.inside.store c.in-Some.slot c.args.key.now c.find.ensures.once c.in-Some.ensures.found in
-    c.lent.ensures ∙ ap (option_map (λ (r : Record). shown (stored.version r))) found.1 ∙ sym found.2 ∙ ap (λ (v : CoreView). versions_in v.slots c.args.key.now) c.self.view_is
+    c.lent.ensures ∙ ap (option_map (λ (r : StoreRecord). key_versions (stored.version r))) found.1 ∙ sym found.2 ∙ ap (λ (v : CoreView). versions_in v.slots c.args.key.now) c.self.view_is
 
 pub returns-in-None : goal.returns-in-None
 returns-in-None g c = sym (none_in c.self.inside.store c.args.key.now c.in-None.ensures.found) ∙ ap (λ (v : CoreView). versions_in v.slots c.args.key.now) c.self.view_is

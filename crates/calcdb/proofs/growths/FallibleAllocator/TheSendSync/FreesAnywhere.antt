@@ -1,9 +1,0 @@
--- A thread may give back what another took, where it may at the inner allocator.
-use mir.Syntax.{Dict}
-use denote.RattleType.{RattleType}
-use denote.Param.Send.{Frees}
-use Rattle.std.specs.declared.alloc.Allocator.{Ghosts}
-use Rattle.calcdb.specs.contracts.growths.FallibleAllocator.TheImpl.{ghosts}
-
-pub frees : (B : RattleType) (g : Ghosts B.Denot) (d e : Dict) → Frees g g.dealloc_token → Frees (ghosts B g d e) (ghosts B g d e).dealloc_token
-frees B g d e f = record { frees = λ h. f.frees h.inner }

@@ -1,0 +1,372 @@
+//! Rows of command lines and of files, and how a row is run. A line of a row is one of these, with what
+//! is wanted behind `=`, as the rows of `rows.rt` have it:
+//!
+//! - `calcdb WORDS = STATUS`: the program, and below what it writes, behind `out` and `err`;
+//! - `starved calcdb WORDS = STATUS`: the same, with every growth refused;
+//! - `scarce calcdb WORDS = COUNT`: with each growth refused in turn it says so, at least so often, or
+//!   does as ever;
+//! - `cramped calcdb WORDS = FILES`: the same where all answers are written; of the files, a line each with
+//!   their sizes, the first ones are whole then, and there is none behind the next one;
+//! - `bytewise calcdb WORDS = COUNT`: so many bytes are written, a byte a call, and each call in turn fails;
+//! - `unwritten calcdb WORDS = -`: it ends where standard output takes no write, or can't be flushed;
+//! - `misused calcdb WORDS = -`: they ask for nothing;
+//! - `size NAME = COUNT`, or `none`; and `same NAME = NAME`: what files have;
+//! - `folder NAME = -` and `remove NAME = -`;
+//! - any other makes a file of this name, see `made_files.rt`.
+
+use crate::program::perform;
+use crate::tests::devices::{PLENTY, Sink};
+use crate::tests::growths::{EVERY, Fallible, MOST};
+use crate::tests::made_files::make_file;
+use crate::tests::rows::{Line, check_named, check_that, number_of, rows_of};
+use crate::tests::texts::words_of;
+use std::alloc::{Allocator, Global};
+use std::fs;
+use std::io::ErrorKind;
+use std::process::Abort;
+use std::rt::Files;
+use std::test::Fail;
+
+/// A standard output that takes so many bytes a call, and so many calls.
+fn output(alloc: Global, most: usize, calls: usize) -> Sink {
+    let mut out = Sink::new(alloc, most, calls);
+    out.fault = ErrorKind::Other;
+    out
+}
+
+/// Lines, each behind the name of the output that they stand on.
+fn push_lines(text: &mut Vec<u8>, name: &[u8], lines: &[u8]) -> Result<(), Fail> {
+    for line in lines.split_inclusive(|byte| *byte == b'\n') {
+        text.extend_from_slice(name)?;
+        text.extend_from_slice(line)?;
+    }
+    Ok(())
+}
+
+/// A status, and the lines of both outputs.
+fn transcript(alloc: Global, status: u8, out: &[u8], err: &[u8]) -> Result<Vec<u8>, Fail> {
+    let mut text = Vec::from_slice(alloc, format!(in alloc; "{status}\n")?.as_bytes())?;
+    push_lines(&mut text, b"out ", out)?;
+    push_lines(&mut text, b"err ", err)?;
+    Ok(text)
+}
+
+/// What a transcript has behind its status of one digit.
+fn behind_status(transcript: &[u8]) -> &[u8] {
+    &transcript[transcript.len().min(2)..]
+}
+
+/// What is said on standard error where memory is wanting.
+const NO_MEMORY: &[u8] = b"err calcdb: no memory\n";
+
+/// Lines of want of memory, each at the end of what a command comes to.
+const WANTS: [&[u8]; 2] = [b"out refused no memory\n", NO_MEMORY];
+
+/// Whether a command ended for want of memory: then a line says so at its end, and what it wrote before
+/// is a beginning of what it writes else. If it didn't, it did as ever: a vector that is refused much asks
+/// for less.
+fn wanted_memory(rt: &impl Abort, line: &str, found: &[u8], whole: &[u8]) -> bool {
+    let lines = behind_status(whole);
+    for want in WANTS {
+        if let Some(front) = found.strip_suffix(want) {
+            let written = front.strip_prefix(b"1\n".as_slice());
+            check_that(rt, line, written.is_some_and(|it| lines.starts_with(it)));
+            return true;
+        }
+    }
+    check_that(rt, line, found == whole);
+    false
+}
+
+/// What stands on standard error where standard output fails.
+const UNWRITTEN: &[u8] = b"calcdb: cannot write output\n";
+
+/// Where rows are run.
+#[derive(Drop)]
+struct Console<'a, R> {
+    rt: &'a R,
+}
+
+impl<R: Files + Abort + AllocGlobal> Console<'_, R>
+where
+    R::File: Drop,
+{
+    /// The status of the program for the words of a line, and its standard error.
+    fn performed<A: Allocator + Copy>(
+        &self,
+        alloc: A,
+        line: &str,
+        out: &mut Sink,
+    ) -> Result<(u8, Vec<u8, Global>), Fail> {
+        let mut err = Sink::new(self.rt.alloc(), PLENTY, PLENTY);
+        let words = words_of(self.rt.alloc(), line)?;
+        let status = perform(alloc, self.rt, words.as_slice(), out, &mut err);
+        Ok((status, err.kept))
+    }
+
+    /// What a line comes to, with an output that takes all.
+    fn found_of<A: Allocator + Copy>(&self, alloc: A, line: &str) -> Result<Vec<u8>, Fail> {
+        let mut out = output(self.rt.alloc(), PLENTY, PLENTY);
+        let (status, err) = self.performed(alloc, line, &mut out)?;
+        transcript(self.rt.alloc(), status, out.kept.as_slice(), err.as_slice())
+    }
+
+    /// How often a command ends for want of memory, with each growth refused in turn.
+    fn count_wants(&self, line: &str) -> Result<u64, Fail> {
+        let heap = Fallible::new(self.rt.alloc());
+        let whole = self.found_of(&heap, line)?;
+        let mut count = 0u64;
+        for refused in 1..MOST {
+            heap.arm(refused);
+            let found = self.found_of(&heap, line)?;
+            let met = heap.asked() >= refused;
+            if wanted_memory(self.rt, line, found.as_slice(), whole.as_slice()) {
+                check_that(self.rt, line, met);
+                count = count.saturating_add(1);
+            }
+            if !met {
+                break;
+            }
+        }
+        Ok(count)
+    }
+
+    /// Whether a command ends since its output fails.
+    fn is_unwritten(&self, line: &str, out: &mut Sink) -> Result<bool, Fail> {
+        let (status, err) = self.performed(self.rt.alloc(), line, out)?;
+        Ok(status == 1 && err.as_slice() == UNWRITTEN)
+    }
+
+    /// What stands on an output that fails, or doesn't.
+    fn written_by(
+        &self,
+        line: &str,
+        most: usize,
+        calls: usize,
+        fails: bool,
+    ) -> Result<Vec<u8, Global>, Fail> {
+        let mut out = output(self.rt.alloc(), most, calls);
+        let is_short = self.is_unwritten(line, &mut out)?;
+        check_that(self.rt, line, is_short == fails);
+        Ok(out.kept)
+    }
+
+    /// An output of one byte a call whose calls fail in turn, until there are enough: what it has is a
+    /// beginning of what is written.
+    fn check_bytewise(&self, line: &str, wanted: &str) -> Result<(), Fail> {
+        let wanted = number_of(wanted.trim_end())? as usize;
+        let whole = self.written_by(line, PLENTY, PLENTY, false)?;
+        check_that(self.rt, line, whole.len() == wanted);
+        for calls in 0..=wanted {
+            let front = self.written_by(line, 1, calls, calls < wanted)?;
+            check_that(
+                self.rt,
+                line,
+                front.len() == calls && whole.starts_with(front.as_slice()),
+            );
+        }
+        Ok(())
+    }
+
+    /// An output that takes no write, and one that isn't flushed.
+    fn check_unwritten(&self, line: &str) -> Result<(), Fail> {
+        let mut closed = output(self.rt.alloc(), PLENTY, 0);
+        let mut unflushed = output(self.rt.alloc(), PLENTY, PLENTY);
+        unflushed.flushes = false;
+        check_that(self.rt, line, self.is_unwritten(line, &mut closed)?);
+        check_that(self.rt, line, self.is_unwritten(line, &mut unflushed)?);
+        Ok(())
+    }
+
+    /// How many bytes a file has, if it is there.
+    fn size_of(&self, name: &str) -> Result<String<Global>, Fail> {
+        Ok(match fs::read(self.rt, name) {
+            Ok(bytes) => format!(in self.rt.alloc(); "{}\n", bytes.len())?,
+            Err(_) => format!(in self.rt.alloc(); "none\n")?,
+        })
+    }
+
+    /// How many of the files stand whole: the first ones, of which the next may have a part, and none behind it.
+    fn whole_files(&self, files: &str) -> Result<usize, Fail> {
+        let mut whole = 0usize;
+        let mut ended = false;
+        for line in files.lines() {
+            let (name, size) = line.split_once(' ').ok_or("no size")?;
+            let found = self.size_of(name)?;
+            if ended && found.as_str() != "none\n" {
+                return Err("a file stands behind one that isn't whole".into());
+            }
+            if found.as_str().trim_end() == size {
+                whole = whole.saturating_add(1);
+            } else {
+                ended = true;
+            }
+        }
+        Ok(whole)
+    }
+
+    fn remove_files(&self, files: &str) {
+        for line in files.lines() {
+            if let Some((name, _)) = line.split_once(' ') {
+                let _ = fs::remove_file(self.rt, name);
+            }
+        }
+    }
+
+    /// How many files stand whole where a command ended for want of memory after all its answers.
+    fn written_before(
+        &self,
+        found: &[u8],
+        whole: &[u8],
+        files: &str,
+    ) -> Result<Option<usize>, Fail> {
+        let lines = behind_status(whole);
+        let front = found.strip_prefix(b"1\n".as_slice()).unwrap_or(&[]);
+        if front.strip_suffix(NO_MEMORY) == Some(lines) {
+            Ok(Some(self.whole_files(files)?))
+        } else {
+            Ok(None)
+        }
+    }
+
+    /// Each growth refused in turn: each of the files was once the first that isn't whole.
+    fn check_cramped(&self, line: &str, files: &str) -> Result<(), Fail> {
+        let heap = Fallible::new(self.rt.alloc());
+        let whole = self.found_of(&heap, line)?;
+        let mut next = 0usize;
+        for refused in 1..MOST {
+            self.remove_files(files);
+            heap.arm(refused);
+            let found = self.found_of(&heap, line)?;
+            if let Some(front) = self.written_before(found.as_slice(), whole.as_slice(), files)? {
+                check_that(
+                    self.rt,
+                    line,
+                    front == next || front == next.saturating_add(1),
+                );
+                next = front;
+            }
+            if heap.asked() < refused {
+                check_that(self.rt, line, found.as_slice() == whole.as_slice());
+                break;
+            }
+        }
+        let wanted = files.lines().count();
+        check_that(self.rt, line, next.saturating_add(1) == wanted);
+        Ok(())
+    }
+
+    /// Words that ask for nothing, which is said on standard error.
+    fn check_misused(&self, line: &str) -> Result<(), Fail> {
+        let mut out = output(self.rt.alloc(), PLENTY, PLENTY);
+        let (status, err) = self.performed(self.rt.alloc(), line, &mut out)?;
+        check_that(
+            self.rt,
+            line,
+            status == 2 && out.kept.is_empty() && !err.is_empty(),
+        );
+        Ok(())
+    }
+
+    fn check_same(&self, name: &str, other: &str) -> Result<(), Fail> {
+        let bytes = fs::read(self.rt, name)?;
+        let others = fs::read(self.rt, other)?;
+        check_that(self.rt, name, bytes.as_slice() == others.as_slice());
+        Ok(())
+    }
+
+    /// Removes a file or a folder.
+    fn remove(&self, name: &str) -> Result<(), Fail> {
+        if fs::remove_file(self.rt, name).is_err() {
+            fs::remove_dir_all(self.rt, name)?;
+        }
+        Ok(())
+    }
+
+    /// A command ends for want of memory so often at least.
+    fn check_scarce(&self, line: &str, wanted: &str) -> Result<(), Fail> {
+        let count = self.count_wants(line)?;
+        check_that(self.rt, line, count >= number_of(wanted.trim_end())?);
+        Ok(())
+    }
+
+    /// Compares what a command line comes to.
+    fn check_found<A: Allocator + Copy>(
+        &self,
+        alloc: A,
+        line: &str,
+        wanted: &str,
+    ) -> Result<(), Fail> {
+        let found = self.found_of(alloc, line)?;
+        check_named(self.rt, line, found.as_slice(), wanted);
+        Ok(())
+    }
+
+    /// The same, with every growth refused.
+    fn check_starved(&self, line: &str, wanted: &str) -> Result<(), Fail> {
+        let heap = Fallible::new(self.rt.alloc());
+        heap.arm(EVERY);
+        self.check_found(&heap, line, wanted)
+    }
+
+    fn check_command(&self, verb: &str, line: &str, wanted: &str) -> Result<(), Fail> {
+        match verb {
+            "scarce" => self.check_scarce(line, wanted),
+            "bytewise" => self.check_bytewise(line, wanted),
+            "cramped" => self.check_cramped(line, wanted),
+            "unwritten" => self.check_unwritten(line),
+            "misused" => self.check_misused(line),
+            "starved" => self.check_starved(line, wanted),
+            _ => self.check_found(self.rt.alloc(), line, wanted),
+        }
+    }
+
+    fn check_size(&self, name: &str, wanted: &str) -> Result<(), Fail> {
+        let size = self.size_of(name)?;
+        check_named(self.rt, name, size.as_bytes(), wanted);
+        Ok(())
+    }
+
+    fn make_folder(&self, name: &str) -> Result<(), Fail> {
+        Ok(fs::create_dir(self.rt, name)?)
+    }
+
+    fn check_file(&self, verb: &str, name: &str, wanted: &str) -> Result<(), Fail> {
+        match verb {
+            "size" => self.check_size(name, wanted),
+            "same" => self.check_same(name, wanted.trim_end()),
+            "folder" => self.make_folder(name),
+            "remove" => self.remove(name),
+            _ => make_file(self.rt, verb, name, wanted),
+        }
+    }
+
+    /// Runs a line of a row.
+    fn check_line(&self, line: &Line<'_>) -> Result<(), Fail> {
+        let wanted = line.answer.as_str();
+        if line.command.starts_with("calcdb") {
+            return self.check_command("", line.command, wanted);
+        }
+        let (verb, rest) = line.command.split_once(' ').ok_or("no words")?;
+        if rest.starts_with("calcdb") {
+            self.check_command(verb, rest, wanted)
+        } else {
+            self.check_file(verb, rest, wanted)
+        }
+    }
+}
+
+/// Runs the rows of a text, each in files of its own, and answers how many there are.
+pub(crate) fn check_rows<R: Files + Abort + AllocGlobal>(rt: &R, text: &str) -> Result<usize, Fail>
+where
+    R::File: Drop,
+{
+    let console = Console { rt };
+    let rows = rows_of(rt.alloc(), text)?;
+    for row in &rows {
+        for line in &row.lines {
+            console.check_line(line)?;
+        }
+    }
+    Ok(rows.len())
+}

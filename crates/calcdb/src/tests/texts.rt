@@ -1,0 +1,341 @@
+//! Texts and words, each with what is read of it: scripts, procedures, pairs, values, names and command lines.
+
+use crate::command_line::job;
+use crate::commands::is_name;
+use crate::output::{push_image, push_value};
+use crate::pairs::load;
+use crate::scripts::{ScriptFault, read_catalog, read_script};
+use crate::tests::fixtures::{check_over, script_of};
+use crate::tests::rows::{check_named, check_that, driven, sides_of};
+use crate::values::value_of;
+use std::alloc::Global;
+use std::fmt::Write;
+use std::process::Abort;
+use std::test::Fail;
+
+/// As what a text is read.
+#[derive(Clone, Copy)]
+enum Reading {
+    Script,
+    Catalog,
+    Pairs,
+    Value,
+    Name,
+    Words,
+}
+
+/// Scripts, and how many procedures each has, or its first faulty line.
+const SCRIPTS: &str = "\
+; \r|\t \r| proc g 0 \r|| end|step 00\r = Ok(1)
+|stop 0 = Err(Line(2))
+;|;|; \u{7f}| = Err(Line(3))
+step 65536 = Err(Line(1))
+step = Err(Line(1))
+step 0 0 = Err(Line(1))
+step -1 = Err(Line(1))
+call 0 1 get 'a = Err(Line(1))
+proc g 1|read r0 $0|end|call 0 18446744073709551616 g 'a = Err(Line(4))
+proc g 1|read r0 $0|end|call 0 1 g #18446744073709551616 = Err(Line(4))
+proc g 1|read r0 $0|end|call 0 1 g x123 = Err(Line(4))
+proc g 1|read r0 $0|end|call 0 1 g xgg = Err(Line(4))
+proc g 1|read r0 $1|end = Err(Line(2))
+proc g 1|read r8 $0|end = Err(Line(2))
+proc g 1|abort 15 absent $0|end = Err(Line(2))
+proc g 1|abort 256 absent $0|end = Err(Line(2))
+proc g 9|end = Err(Line(1))
+proc G 1|end = Err(Line(1))
+proc g 1|end|proc g 1|end = Err(Line(3))
+proc g 1|read r0 $0||wrong| = Err(Line(1))
+proc g 1|read r0 $0||wrong|end = Err(Line(4))
+step 0|proc g 1|end = Err(Line(2))
+proc g 1|proc h 1|end = Err(Line(2))
+proc g 1 1|end = Err(Line(1))
+proc abcdefghijklmnopqrstuvwxyz0123456 1|end = Err(Line(1))
+proc g 1|read r0|end = Err(Line(2))
+proc g 1|read r0 $0 $0|end = Err(Line(2))
+proc g 1|put $0 text|end = Err(Line(2))
+proc g 1|put $0 #000000000000000000000|end = Err(Line(2))
+proc g 1|abort 16 same $0|end = Err(Line(2))
+proc g 1|read r0 $0|end 1|end = Err(Line(3))
+step 0\rstep 0 = Err(Line(1))
+start = Err(Line(1))
+start half = Err(Line(1))
+start full partial = Err(Line(1))
+advance 1 = Err(Line(1))
+capture 1 = Err(Line(1))
+scan x = Err(Line(1))
+image 1 = Err(Line(1))
+reclaim 'a = Err(Line(1))
+abandon 1 = Err(Line(1))
+scans = Err(Line(1))
+step 0|step 0|step\u{0}0| = Err(Line(3))
+";
+
+/// Texts, and how many procedures stand before their first command, or their first faulty line. From the
+/// first line of a command on nothing is looked at.
+const CATALOGS: &str = "\
+; none|| = Ok(0)
+ = Ok(0)
+proc g 1|read r0 $0|end = Ok(1)
+proc g 1\r|end\r||;|proc h 0|end|\t = Ok(2)
+proc g 1|end|step 0| = Ok(1)
+proc g 1|end|stop|proc g 1|end| = Ok(1)
+stop|proc g| = Ok(0)
+end| = Ok(0)
+proc g 1|end|step\u{0} 0| = Ok(1)
+proc g 1|end|Proc h| = Ok(1)
+|; \u{7f}| = Err(Line(2))
+proc g\u{0} 1|end| = Err(Line(1))
+proc g 9|end|step 0| = Err(Line(1))
+proc g 1|end|proc g 1|end|step 0| = Err(Line(3))
+proc g 1|step 0|end|step 0| = Err(Line(2))
+proc g 1|\u{0}|end|stop| = Err(Line(2))
+proc g 1|step 0| = Err(Line(1))
+|proc g 1|read r0 $0| = Err(Line(2))
+proc g 1|end 1|| = Err(Line(1))
+";
+
+/// Texts of pairs, and the lines of their images or of their faults.
+const PAIRS: &str = "\
+'a #1 = image full 0 base 0 place 0 count 1|'a #1
+ = image full 0 base 0 place 0 count 0
+'abcdefghijklmnopqrstuvwxyz012345 x| = image full 0 base 0 place 0 count 1|'abcdefghijklmnopqrstuvwxyz012345 '
+; in any order|| \t\r|'b x0aff\r| 'a\t' |#5 'text\r = image full 0 base 0 place 0 count 3|#5 'text|'a '|'b x0aff
+'a = fault line 1
+'a #1 #2 = fault line 1
+'a #1 ; = fault line 1
+a #1 = fault line 1
+'a 1 = fault line 1
+'a #18446744073709551616 = fault line 1
+'a x123 = fault line 1
+'a xgg = fault line 1
+' #1 = fault line 1
+|x #1 = fault line 2
+'abcdefghijklmnopqrstuvwxyz0123456 #1 = fault line 1
+'a #1|'b #2|'a #3|wrong = fault line 3
+'a #1|;|x61 #1| = fault line 3
+; \u{7f}| = fault line 1
+'b #1|'a\u{0} #1 = fault line 2
+'a #1\r'b #1 = fault line 1
+";
+
+/// Words of values, and what is printed of them.
+const VALUES: &str = "\
+#0 = #0
+#00000000000000000007 = #7
+#18446744073709551615 = #18446744073709551615
+' = '
+x = '
+'abc; = 'abc;
+x4142434445464748 = #4702394921427289928
+x0aFF = x0aff
+x2041 = x2041
+";
+
+/// Words, and whether they are names.
+const NAMES: &str = "\
+a = true
+a1 = true
+abcdefghijklmnopqrstuvwxyz012345 = true
+1a = false
+aB = false
+abcdefghijklmnopqrstuvwxyz0123456 = false
+ = false
+";
+
+/// Command lines, and what they ask for, or why they ask for nothing.
+const COMMAND_LINES: &str = "\
+calcdb run a = Run(RunFiles { script: \"a\", opening: None, folder: None })
+calcdb run a --open b --out c = Run(RunFiles { script: \"a\", opening: Some(\"b\"), folder: Some(\"c\") })
+calcdb run --out=c a = Run(RunFiles { script: \"a\", opening: None, folder: Some(\"c\") })
+calcdb run --open=b -- --out = Run(RunFiles { script: \"--out\", opening: Some(\"b\"), folder: None })
+calcdb load a b = Load { pairs: \"a\", out: \"b\" }
+calcdb merge a b = Merge { out: \"a\", images: [\"b\"] }
+calcdb merge a d c d = Merge { out: \"a\", images: [\"d\", \"c\", \"d\"] }
+calcdb recover a b c e d = Recover { script: \"a\", log: \"b\", out: \"c\", images: [\"e\", \"d\"] }
+calcdb show a = Show { file: \"a\" }
+calcdb = MissingSubcommand
+calcdb stop = InvalidSubcommand
+calcdb run = MissingRequiredArgument
+calcdb run a b = UnknownArgument
+calcdb run a --open = InvalidValue
+calcdb run a --out b --out b = ArgumentConflict
+calcdb load a = MissingRequiredArgument
+calcdb load a b c = UnknownArgument
+calcdb load a b --out c = UnknownArgument
+calcdb merge a = MissingRequiredArgument
+calcdb recover a b c = MissingRequiredArgument
+calcdb show = MissingRequiredArgument
+calcdb show a b = UnknownArgument
+calcdb show --open a = UnknownArgument
+";
+
+fn procedures_of_script(alloc: Global, text: &[u8]) -> Result<usize, ScriptFault> {
+    Ok(read_script(alloc, text)?.catalog.len())
+}
+
+fn procedures_of(alloc: Global, text: &[u8]) -> Result<usize, ScriptFault> {
+    Ok(read_catalog(alloc, text)?.len())
+}
+
+/// The lines of the image of a text of pairs, or of its fault. A header or a fault is what was written.
+fn pairs_read(rt: &impl Abort, alloc: Global, text: &str) -> Result<String<Global>, Fail> {
+    let mut written = Vec::new(alloc);
+    let mut lines = Vec::new(alloc);
+    match load(alloc, &mut text.as_bytes(), &mut written) {
+        Ok(image) => push_image(&mut lines, &image)?,
+        Err(fault) => lines.extend_from_slice(format!(in alloc; "{fault}\n")?.as_bytes())?,
+    }
+    check_that(rt, text, lines.starts_with(written.as_slice()));
+    check_that(rt, text, written.ends_with(b"\n"));
+    Ok(String::from_utf8(lines).map_err(|_| "no text")?)
+}
+
+fn value_read(alloc: Global, word: &str) -> Result<String<Global>, Fail> {
+    let value = value_of(alloc, word.as_bytes()).map_err(|_| "no value")?;
+    let mut out = Vec::new(alloc);
+    push_value(&mut out, value.as_slice())?;
+    Ok(String::from_utf8(out).map_err(|_| "no text")?)
+}
+
+/// The words of a line.
+pub(crate) fn words_of(alloc: Global, line: &str) -> Result<Vec<&str, Global>, Fail> {
+    let mut words = Vec::new(alloc);
+    for word in line.split_whitespace() {
+        words.push(word)?;
+    }
+    Ok(words)
+}
+
+/// What a line's words ask for, or why they ask for nothing, which is said on standard error.
+fn task_read(rt: &impl Abort, alloc: Global, line: &str) -> Result<String<Global>, Fail> {
+    match job(alloc, words_of(alloc, line)?.as_slice()) {
+        Ok(task) => Ok(format!(in alloc; "{task:?}")?),
+        Err(error) => {
+            check_that(rt, line, error.use_stderr());
+            let kind = error.kind();
+            Ok(format!(in alloc; "{kind:?}")?)
+        }
+    }
+}
+
+/// What is read of a text.
+fn read(rt: &impl Abort, alloc: Global, how: Reading, text: &str) -> Result<String<Global>, Fail> {
+    let bytes = text.as_bytes();
+    match how {
+        Reading::Script => Ok(format!(in alloc; "{:?}", procedures_of_script(alloc, bytes))?),
+        Reading::Catalog => Ok(format!(in alloc; "{:?}", procedures_of(alloc, bytes))?),
+        Reading::Pairs => pairs_read(rt, alloc, text),
+        Reading::Value => value_read(alloc, text),
+        Reading::Name => Ok(format!(in alloc; "{}", is_name(bytes))?),
+        Reading::Words => task_read(rt, alloc, text),
+    }
+}
+
+/// Compares what is read of a text.
+fn check(
+    rt: &impl Abort,
+    alloc: Global,
+    how: Reading,
+    text: &str,
+    wanted: &str,
+) -> Result<(), Fail> {
+    let found = read(rt, alloc, how, text)?;
+    check_named(rt, text, found.as_str().trim_end().as_bytes(), wanted);
+    Ok(())
+}
+
+/// Compares what is read of the texts of a table, in which each `|` is a line feed.
+fn check_all(rt: &impl Abort, alloc: Global, how: Reading, table: &str) -> Result<(), Fail> {
+    for line in table.lines() {
+        let (text, wanted) = sides_of(line)?;
+        let text = text.replace(alloc, "|", "\n")?;
+        let wanted = wanted.replace(alloc, "|", "\n")?;
+        check(rt, alloc, how, text.as_str(), wanted.as_str())?;
+    }
+    Ok(())
+}
+
+#[test]
+fn texts(rt: HostRuntime) -> Result<(), Fail> {
+    for (how, table, count) in [
+        (Reading::Script, SCRIPTS, 43),
+        (Reading::Catalog, CATALOGS, 19),
+        (Reading::Pairs, PAIRS, 20),
+        (Reading::Value, VALUES, 9),
+        (Reading::Name, NAMES, 7),
+        (Reading::Words, COMMAND_LINES, 23),
+    ] {
+        assert_eq!(rt; table.lines().count(), count);
+        check_all(&rt, rt.alloc(), how, table)?;
+    }
+    Ok(())
+}
+
+/// A script of so many procedures, the first of so many instructions with a literal of so many bytes.
+fn script_of_sizes(
+    alloc: Global,
+    (instructions, literal, procedures): (usize, usize, usize),
+) -> Result<String<Global>, Fail> {
+    let literal = "a".repeat(alloc, literal)?;
+    let mut text = format!(in alloc; "proc g 1\nread r0 '{literal}\n")?;
+    for _ in 1..instructions {
+        text.push_str("read r0 $0\n")?;
+    }
+    text.push_str("end\n")?;
+    for number in 1..procedures {
+        writeln!(text, "proc p{number} 0\nend")?;
+    }
+    Ok(text)
+}
+
+#[test]
+fn limits(rt: HostRuntime) -> Result<(), Fail> {
+    for (sizes, wanted) in [
+        ((64, 256, 64), "Ok(64)"),
+        ((65, 256, 64), "Err(Line(66))"),
+        ((64, 257, 64), "Err(Line(2))"),
+        ((64, 256, 65), "Err(Line(193))"),
+    ] {
+        let text = script_of_sizes(rt.alloc(), sizes)?;
+        check(&rt, rt.alloc(), Reading::Script, text.as_str(), wanted)?;
+    }
+    Ok(())
+}
+
+/// The longest value, and one of a byte more.
+#[test]
+fn long_values(rt: HostRuntime) -> Result<(), Fail> {
+    let alloc = rt.alloc();
+    let longest = "v".repeat(alloc, 65_535)?;
+    let pair = format!(in alloc; "'a '{longest}")?;
+    let image = format!(in alloc; "image full 0 base 0 place 0 count 1\n{pair}")?;
+    check(&rt, alloc, Reading::Pairs, pair.as_str(), image.as_str())?;
+    let longer = format!(in alloc; "'b '\n{pair}v")?;
+    check(&rt, alloc, Reading::Pairs, longer.as_str(), "fault line 2")
+}
+
+/// Calls of arguments of 257, 65,536, 33 and 32 bytes.
+fn long_arguments(alloc: Global) -> Result<String<Global>, Fail> {
+    let mut commands = String::new(alloc);
+    for (number, length) in [(1, 257), (2, 65_536), (2, 33), (3, 32)] {
+        let argument = "a".repeat(alloc, length)?;
+        writeln!(
+            commands,
+            "begin 0 {number} get '{argument}\nstep 0\nfinish 0"
+        )?;
+    }
+    script_of(alloc, commands.as_str())
+}
+
+/// An argument of over 32 bytes is no key, and one of over 65,535 bytes is none.
+#[test]
+fn lengths_of_arguments(rt: HostRuntime) -> Result<(), Fail> {
+    let script = long_arguments(rt.alloc())?;
+    let answers =
+        "ok\nready\nplace 0 aborted 5\nrefused arg size\nrefused not active\nrefused not active\nok\nready\nplace 1 aborted 5\nok\nready\nplace 2 committed -\n";
+    let _ran = check_over(&rt, "arguments", script.as_str(), "", answers)?;
+    let written = driven(rt.alloc(), script.as_str(), "")?;
+    check_named(&rt, "arguments", written.as_slice(), answers);
+    Ok(())
+}

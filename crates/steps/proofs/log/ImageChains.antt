@@ -1,0 +1,220 @@
+-- Images of a log's checkpoints stay so as the log grows, and chains of them merge to its tables at their cuts.
+use Rattle.std.proofs.Common.{◌≡◌, ℕ, zero, suc, ◌-◌, ◌≤◌, ◌<◌, Bool, true, false, cond, ◌||◌, List, [], ◌∷◌, ◌++◌, length, take, drop, get_or, Option, Some, None, is_some, refl, sym, ap, ◌∙◌, subst, inl, inr, arith, true≢false}
+use Rattle.std.specs.Prelude.{slice_range}
+use Rattle.std.specs.List.{All, Contains}
+use Rattle.std.proofs.lemmas.Bool.{cases_lt}
+use Rattle.std.proofs.lemmas.List.Elements.{All-from_recursion, All-contains, recursion_from_All}
+use Rattle.procedure.specs.Bytes.{Bytes, Cell}
+use Rattle.procedure.specs.Table.{Table, change_at, changed_or, merged, no_table, value_at}
+use Rattle.procedure.specs.Procedures.{Instruction, Procedure}
+use Rattle.procedure.specs.Runs.{committed, whole}
+use Rattle.procedure.specs.Copies.{run}
+use Rattle.procedure.proofs.Base.{same_table, value_at-merged, value_at-no_table}
+use Rattle.procedure.proofs.Copies.{whole_is_run}
+use Rattle.commitlog.specs.Records.{Record, Token, Call}
+use Rattle.commitlog.specs.Histories.{IsCyclic, after, code_of, table_after}
+use Rattle.commitlog.specs.Cuts.{HasCut, IsFullImage, IsPartialImage, at_cut, before_resolve, cut, in_full, in_partial, resolves, writes, written, written_from}
+use Rattle.commitlog.specs.Laws.{KeepsCut}
+use Rattle.commitlog.proofs.Cuts.{keeps_cut}
+use Rattle.commitlog.proofs.Finished.{base_is_before}
+use Rattle.commitlog.proofs.Histories.{after-append}
+use Rattle.commitlog.proofs.Lists.{take_and_range}
+use Rattle.image.specs.Images.{Image, changes_of}
+use Rattle.image.specs.Merges as merges
+use Rattle.image.specs.Merges.{IsChain, AreChained, last_of, table_of}
+use Rattle.image.specs.declared.images.Kind.{Kind}
+use Rattle.image.specs.declared.images.Kind.TheVariants.{Full, Partial}
+use Rattle.steps.specs.CutImages.{AllTaken, ChainsAreCuts, IsOfKind, IsTaken, number_of_last, plain}
+
+-- ---- as the log grows
+
+cut_within_at : (b : Bool) (x y n : ℕ) → (x < n → y ≡ x) → cond b 0 (suc x) < suc n → cond b 0 (suc y) ≡ cond b 0 (suc x)
+cut_within_at true x y n ih l = refl
+cut_within_at false x y n ih l = ap suc (ih (omega arith))
+
+cut_within : (n : ℕ) (l m : List Record) → before_resolve n l < length l → before_resolve n (l ++ m) ≡ before_resolve n l
+cut_within n [] m w = absurd (omega arith)
+cut_within n (r ∷ l) m w = cut_within_at (resolves n r) (before_resolve n l) (before_resolve n (l ++ m)) (length l) (cut_within n l m) w
+
+no_earlier_at : (b : Bool) (x y : ℕ) → x ≤ y → cond b 0 (suc x) ≤ cond b 0 (suc y)
+no_earlier_at true x y l = omega arith
+no_earlier_at false x y l = omega arith
+
+no_earlier : (n : ℕ) (l m : List Record) → before_resolve n l ≤ before_resolve n (l ++ m)
+no_earlier n [] m = omega arith
+no_earlier n (r ∷ l) m = no_earlier_at (resolves n r) (before_resolve n l) (before_resolve n (l ++ m)) (no_earlier n l m)
+
+same_cut : (n : ℕ) (l m : List Record) → cut l n < length l → cut (l ++ m) n ≡ cut l n
+same_cut zero l m w = refl
+same_cut (suc n) l m w = cut_within (suc n) l m w
+
+no_earlier_cut : (n : ℕ) (l m : List Record) → cut l n ≤ cut (l ++ m) n
+no_earlier_cut zero l m = omega arith
+no_earlier_cut (suc n) l m = no_earlier (suc n) l m
+
+-- between a place and none after it nothing is written
+nothing_written : (c : List Procedure) (t : Table) (l : List Record) (i j : ℕ) (q : Bytes) → j ≤ i → written c t l i j q ≡ false
+unfolding written_from
+nothing_written c t l i j q w = ap (λ n. written_from c (after c t (take i l)) (take n (drop i l)) q) none
+  where
+    none : j - i ≡ 0
+    none = omega arith
+
+module _ (c : List Procedure) (t : Table) (l m : List Record) where
+  written_same : (b n : ℕ) (q : Bytes) → HasCut l n → written c t l (cut l b) (cut l n) q ≡ written c t (l ++ m) (cut (l ++ m) b) (cut (l ++ m) n) q
+  written_same b n q h =
+      elim (cases_lt (cut l b) (cut l n)) [
+        | inl w ↦ sym (kept.keys (cut l b) q (omega arith))
+            ∙ ap (λ k. written c t (l ++ m) k (cut l n) q) (sym (same_cut b l m (let within = kept.within in omega arith)))
+            ∙ ap (λ k. written c t (l ++ m) (cut (l ++ m) b) k q) (sym kept.place)
+        | inr w ↦ nothing_written c t l (cut l b) (cut l n) q w
+            ∙ sym (nothing_written c t (l ++ m) (cut (l ++ m) b) (cut (l ++ m) n) q (let later = no_earlier_cut b l m in let place = kept.place in omega arith))
+      ]
+    where
+      kept : KeepsCut c t l m n
+      kept = keeps_cut c t l m n h
+
+  module _ (i : Image) (h : HasCut l i.number) where
+    kept : KeepsCut c t l m i.number
+    kept = keeps_cut c t l m i.number h
+
+    image_stays : (k : Kind) → IsOfKind k c t l (plain i) → IsOfKind k c t (l ++ m) (plain i)
+    image_stays Full x =
+        record {
+          base = x.base;
+          place = x.place ∙ sym kept.place;
+          entries = λ q. x.entries q ∙ ap (λ (u : Table). in_full (value_at u q)) (sym kept.table);
+        }
+    image_stays Partial x =
+        record {
+          base = x.base ∙ sym kept.base;
+          place = x.place ∙ sym kept.place;
+          entries = λ q.
+              x.entries q
+              ∙ ap (λ b. in_partial b (value_at (at_cut c t l i.number) q)) (written_same i.base i.number q h)
+              ∙ ap (λ (u : Table). in_partial (written c t (l ++ m) (cut (l ++ m) i.base) (cut (l ++ m) i.number) q) (value_at u q)) (sym kept.table);
+        }
+
+  pub taken-grows : (i : Image) → IsTaken c t l i → IsTaken c t (l ++ m) i
+  taken-grows i x =
+      record {
+        has_cut = (keeps_cut c t l m i.number x.has_cut).stays;
+        cut = image_stays i x.has_cut i.kind x.cut;
+      }
+
+  pub all_taken-grows : (is : List Image) → AllTaken c t l is → AllTaken c t (l ++ m) is
+  all_taken-grows [] x = tt
+  all_taken-grows (i ∷ is) x = (taken-grows i x.0, all_taken-grows is x.1)
+
+-- one image more
+pub all_taken-push : (c : List Procedure) (t : Table) (l : List Record) (is : List Image) (i : Image) → AllTaken c t l is → IsTaken c t l i → AllTaken c t l (is ++ i ∷ [])
+all_taken-push c t l [] i x y = (y, tt)
+all_taken-push c t l (j ∷ is) i x y = (x.0, all_taken-push c t l is i x.1 y)
+
+-- ---- what isn't written stays
+
+left_false : (a b : Bool) → (a || b) ≡ false → a ≡ false
+left_false true b e = e
+left_false false b e = refl
+
+right_false : (a b : Bool) → (a || b) ≡ false → b ≡ false
+right_false true b e = absurd (true≢false e)
+right_false false b e = e
+
+not_some : {X : Type 0} (o : Option X) → is_some o ≡ false → o ≡ None
+not_some None e = refl
+not_some (Some x) e = absurd (true≢false e)
+
+run_unwritten : (code : List Instruction) (args : List Bytes) (t : Table) (q : Bytes) → (run code args t).written q ≡ false → value_at (run code args t).table q ≡ value_at t q
+run_unwritten code args t q h =
+    let w = whole_is_run code args t in
+    let c = committed (whole code args t) in
+    let none : change_at c q ≡ None = not_some (change_at c q) (w.written q ∙ h) in
+    ap (λ (u : Table). value_at u q) (sym w.table) ∙ value_at-merged t c q ∙ ap (λ (o : Option Cell). changed_or o (value_at t q)) none
+
+record_unwritten : (c : List Procedure) (t : Table) (r : Record) (q : Bytes) → writes c t r q ≡ false → value_at (table_after c t r) q ≡ value_at t q
+record_unwritten c t (Token p n) q h = refl
+record_unwritten c t (Call s n p args o r) q h = run_unwritten (code_of c p) args t q h
+
+unwritten : (c : List Procedure) (t : Table) (l : List Record) (q : Bytes) → written_from c t l q ≡ false → value_at (after c t l) q ≡ value_at t q
+unfolding written_from after
+unwritten c t [] q h = refl
+unwritten c t (r ∷ l) q h =
+    unwritten c (table_after c t r) l q (right_false (writes c t r q) (written_from c (table_after c t r) l q) h)
+    ∙ record_unwritten c t r q (left_false (writes c t r q) (written_from c (table_after c t r) l q) h)
+
+unwritten_between :
+    (c : List Procedure) (t : Table) (l : List Record) (i j : ℕ) (q : Bytes) → i ≤ j → written c t l i j q ≡ false → value_at (after c t (take j l)) q ≡ value_at (after c t (take i l)) q
+unwritten_between c t l i j q le h =
+    ap (λ (k : List Record). value_at (after c t k) q) (sym (take_and_range l i j le))
+    ∙ ap (λ (u : Table). value_at u q) (after-append c t (take i l) (slice_range l i j))
+    ∙ unwritten c (after c t (take i l)) (slice_range l i j) q h
+
+-- ---- chains
+
+full_or_none : (x : Cell) → changed_or (in_full x) None ≡ x
+full_or_none None = refl
+full_or_none (Some v) = refl
+
+module _ (c : List Procedure) (t : Table) (l : List Record) where
+  -- a full image holds the table at its cut
+  full_is_cut : (i : Image) → IsFullImage c t l (plain i) → table_of i ≡ at_cut c t l i.number
+  full_is_cut i f =
+      same_table (table_of i) (at_cut c t l i.number) (λ q.
+      value_at-merged no_table (changes_of i) q
+      ∙ ap (changed_or (change_at (changes_of i) q)) (value_at-no_table q)
+      ∙ ap (λ (o : Option Cell). changed_or o None) (f.entries q)
+      ∙ full_or_none (value_at (at_cut c t l i.number) q))
+
+  module _ (cyclic : IsCyclic l) where
+    -- and a partial one leads from the table at its base's cut to that at its own
+    partial_is_cut : (i : Image) → IsPartialImage c t l (plain i) → merged (at_cut c t l i.base) (changes_of i) ≡ at_cut c t l i.number
+    partial_is_cut i f =
+        same_table (merged (at_cut c t l i.base) (changes_of i)) (at_cut c t l i.number) (λ q.
+        value_at-merged (at_cut c t l i.base) (changes_of i) q
+        ∙ ap (λ (o : Option Cell). changed_or o (value_at (at_cut c t l i.base) q)) (f.entries q)
+        ∙ by_written q (written c t l (cut l i.base) (cut l i.number) q) refl)
+      where
+        before : cut l i.base ≤ cut l i.number
+        before = subst (λ b. cut l b ≤ cut l i.number) (sym f.base) (base_is_before l cyclic i.number)
+
+        by_written : (q : Bytes) (w : Bool) → written c t l (cut l i.base) (cut l i.number) q ≡ w →
+            changed_or (in_partial w (value_at (at_cut c t l i.number) q)) (value_at (at_cut c t l i.base) q) ≡ value_at (at_cut c t l i.number) q
+        by_written q true e = refl
+        by_written q false e = sym (unwritten_between c t l (cut l i.base) (cut l i.number) q before e)
+
+    -- partial images that stand on the cut of checkpoint n
+    partials_are_cuts : (u : Table) (n : ℕ) (ps : List Image) → u ≡ at_cut c t l n → AreChained n ps → AllTaken c t l ps → merges.table_with_images u ps ≡ at_cut c t l (number_of_last n ps)
+    partials_are_cuts u n [] e stand taken = e
+    partials_are_cuts u n (p ∷ ps) e stand taken =
+        let partial = subst (λ (k : Kind). IsOfKind k c t l (plain p)) stand.0 taken.0.cut in
+        let next : merged u (changes_of p) ≡ at_cut c t l p.number =
+        ap (λ (x : Table). merged x (changes_of p)) (e ∙ ap (at_cut c t l) (sym stand.1)) ∙ partial_is_cut p partial in
+        partials_are_cuts (merged u (changes_of p)) p.number ps next stand.2 taken.1
+
+    pub opening_chain : (ps : List Image) → AllTaken c t l ps → AreChained 0 ps → merges.table_with_images t ps ≡ at_cut c t l (number_of_last 0 ps)
+    unfolding after
+    opening_chain ps taken stand = partials_are_cuts t 0 ps refl stand taken
+
+    last_is : (i : Image) (ps : List Image) → number_of_last i.number ps ≡ (last_of i ps).number
+    last_is i [] = refl
+    last_is i (p ∷ ps) = last_is p ps
+
+    pub chain : (i : Image) (ps : List Image) → IsTaken c t l i → AllTaken c t l ps → IsChain i ps → merges.table_with_images (table_of i) ps ≡ at_cut c t l (last_of i ps).number
+    chain i ps taken all stand =
+        partials_are_cuts (table_of i) i.number ps (full_is_cut i (subst (λ (k : Kind). IsOfKind k c t l (plain i)) stand.full_first taken.cut)) stand.partials all
+        ∙ ap (at_cut c t l) (last_is i ps)
+
+    -- chains of images that were all taken
+    pub chains_are_cuts : (is : List Image) → AllTaken c t l is → ChainsAreCuts c t l is
+    chains_are_cuts is taken =
+        record {
+          opening_chain = λ ps among stand. opening_chain ps (all_of ps among) stand;
+          chain = λ i ps here among stand. chain i ps (one_of i here) (all_of ps among) stand;
+        }
+      where
+        one_of : (i : Image) → Contains is i → IsTaken c t l i
+        one_of i here = All-contains (IsTaken c t l) is i (All-from_recursion (IsTaken c t l) is taken) here
+
+        all_of : (ps : List Image) → All (Contains is) ps → AllTaken c t l ps
+        all_of ps among = recursion_from_All (IsTaken c t l) ps (λ k d within. one_of (get_or ps k d) (among k d within))

@@ -1,9 +1,0 @@
-use Rattle.std.proofs.Common.{◌≡◌, ◌≤◌, None, replicate, vec_capacity}
-use Rattle.procedure.specs.declared.limits.TheConstants.{SESSIONS}
-use Rattle.steps.proofs.open.free_places.Given as goal
-
-abbrev pub invariant-loop-session : goal.invariant-loop-session
-invariant-loop-session g l = record {
-  free : l.places.items ≡ replicate l._session None;
-  room : SESSIONS ≤ vec_capacity l.places;
-}

@@ -1,0 +1,56 @@
+-- A core after a checkpoint began.
+use Rattle.std.proofs.Common.{◌≡◌, suc, ◌+◌, [], ◌∷◌, ◌++◌, refl, sym, ap, ◌∙◌, arith, true≢false}
+use Rattle.phase.specs.declared.phases.Phase.TheVariants.{Rest, Prepare}
+use Rattle.commitlog.specs.Logs.{Log}
+use Rattle.commitlog.specs.Histories.{number_of}
+use Rattle.commitlog.specs.Records.{Token}
+use Rattle.image.specs.declared.images.Kind.{Kind}
+use Rattle.steps.specs.inside.CoreFields.{IsCore, view_of}
+use Rattle.steps.specs.CoreViews.{CoreView}
+use Rattle.steps.specs.Checkpointing.{started}
+use Rattle.steps.specs.machine.Machine.{Starts, more, start}
+use Rattle.steps.specs.declared.cores.Core.TheInside.{Inside}
+use Rattle.steps.proofs.phases.AddedToken.{number_is, token_log, token_core}
+
+module _ {A : Type 0} (c : Inside A) (ok : IsCore c) (kind : Kind) (log : Log) (at_rest : c.phase ≡ Rest) (log_is : log.records ≡ c.log.records ++ Token Prepare (c.checkpoint.number + 1) ∷ []) where
+  abbrev after_start : Inside A
+  after_start = record c { log = log; phase = Prepare; checkpoint = record c.checkpoint { number = c.checkpoint.number + 1; kind = kind } }
+
+  next_is : c.checkpoint.number + 1 ≡ suc ok.world.number
+  next_is = let kept = ok.stands.checkpoint.number in omega (arith, kept)
+
+  log_as : log.records ≡ c.log.records ++ Token Prepare (suc ok.world.number) ∷ []
+  log_as = log_is ∙ ap (λ n. c.log.records ++ Token Prepare n ∷ []) next_is
+
+  pub start_core : IsCore after_start
+  start_core =
+      token_core c ok Prepare (suc ok.world.number) log.records log_as log refl c.store c.changed (record c.checkpoint { number = c.checkpoint.number + 1; kind = kind }) c.aside (start ok.world kind)
+      (more ok.run (Starts kind (ok.stands.phase ∙ at_rest)))
+      record {
+        catalog = ok.stands.catalog;
+        opening = ok.stands.opening;
+        log = token_log c ok Prepare (suc ok.world.number) log.records log_as;
+        calls = ok.stands.calls;
+        versions = ok.stands.versions;
+        collecting = ok.stands.collecting;
+        frozen = ok.stands.frozen;
+        locks = ok.stands.locks;
+        phase = refl;
+        checkpoint = record {
+          number = sym next_is;
+          finished = ok.stands.checkpoint.finished;
+          kind = refl;
+          place = λ cutting. absurd (true≢false (sym cutting));
+          scan = tt;
+          waits = ok.stands.checkpoint.waits;
+        };
+      }
+      ok.aside
+
+  pub start_number : (v : CoreView) → view_of c ≡ v → c.checkpoint.number + 1 ≡ suc (number_of v.log)
+  start_number v same = next_is ∙ ap suc (number_is c ok) ∙ ap (λ (w : CoreView). suc (number_of w.log)) same
+
+  pub start_view : (v : CoreView) → view_of c ≡ v → view_of after_start ≡ started v kind
+  start_view v same =
+      ap (λ l. record (view_of after_start) { log = l }) (log_as ∙ ap (λ n. c.log.records ++ Token Prepare (suc n) ∷ []) (number_is c ok))
+      ∙ ap (λ w. started w kind) same

@@ -1,0 +1,5 @@
+-- The scan of a checkpoint, and its image.
+pub mod ScanPlaces
+pub mod CapturingCore
+pub mod CompletedImage
+pub mod VisitCounts

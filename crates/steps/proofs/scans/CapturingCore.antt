@@ -1,0 +1,307 @@
+-- A core whose scan begins, and goes on by one place.
+use Rattle.std.proofs.Common.{List, ◌≡◌, ◌≢◌, ℕ, suc, ◌+◌, ◌<◌, ◌⊎◌, inl, inr, arith, Bool, true, false, cond, ◌||◌, [], ◌∷◌, ◌++◌, length, Option, Some, None, is_some, option_map, append-nil, Vec, refl, sym, ap, ◌∙◌, subst}
+use Rattle.std.specs.Prelude.{IsSome}
+use Rattle.std.proofs.lemmas.Bool.{cases_lt}
+use Rattle.procedure.specs.Bytes.{Bytes, Cell, same}
+use Rattle.procedure.specs.Runs.{with_key}
+use Rattle.procedure.specs.Table.{Changes, change_at, no_changes, value_at}
+use Rattle.procedure.proofs.Base.{keys, same_refl}
+use Rattle.phase.specs.declared.phases.Phase.{Phase}
+use Rattle.phase.specs.declared.phases.Phase.TheVariants.{Rest, Prepare, Resolve, Capture, Complete}
+use Rattle.commitlog.specs.Logs.{Log}
+use Rattle.commitlog.specs.Records.{Token}
+use Rattle.image.specs.Headers.{EachKeyOnce as Once, map_of}
+use Rattle.image.specs.Merges.{is_full, table_of}
+use Rattle.image.specs.declared.images.Kind.{Kind}
+use Rattle.image.specs.declared.images.Kind.TheVariants.{Full, Partial}
+use Rattle.record_store.specs.ChangedSets.{has}
+use Rattle.record_store.specs.Stores.{HasKeysOnce, Slots, key_at}
+use Rattle.steps.proofs.reclaim.SetAside.{aside_kept}
+use Rattle.steps.specs.inside.SetAside.{aside_at}
+use Rattle.steps.specs.machine.NewestFirst.{at, before}
+use Rattle.steps.specs.Checkpointing.{AdvancesTo, CapturesAs, EndsAt, VisitsNext, entered, visited}
+use Rattle.steps.specs.inside.CoreFields.{IsCore, view_of, either}
+use Rattle.steps.specs.CoreViews.{CoreView}
+use Rattle.steps.specs.inside.RecordEdits.{KeepsSlots}
+use Rattle.steps.specs.Versions.{given_at, given_of, kept_of, versions_in, KeyVersions, VersionsByKey, gives}
+use Rattle.steps.specs.machine.Invariant.{ScanKeeps, ScanKeepsIn}
+use Rattle.steps.specs.Refusals.{is_cutting, is_held}
+use Rattle.steps.specs.inside.CheckpointFields.{IsScan, ScansIn, places, spots}
+use Rattle.steps.specs.machine.Machine.{Captures, MayVisit, Runs, Visits, capture, initial, keeps, more, to_visit, visit}
+use Rattle.steps.specs.declared.captures.Captured.TheVariants.{Slot}
+use Rattle.steps.specs.declared.checkpoints.Checkpoint.{Checkpoint}
+use Rattle.steps.specs.declared.cores.Core.TheInside.{Inside}
+use Rattle.steps.proofs.phases.AddedToken.{token_log, token_core}
+use Rattle.steps.proofs.phases.FrozenKeys.{frozen_is}
+use Rattle.steps.proofs.phases.PhaseEnds.{all_started}
+use Rattle.steps.proofs.phases.ResolveAndRest.{before_capture, entered_log, number_here}
+use Rattle.steps.proofs.machine.OpenCalls.{same_Some}
+use Rattle.steps.proofs.scans.ScanPlaces.{frozen_at, given_more, once_more, one_spot, or_right, recorded_at, scan_begun, scan_on, some_key, the_version, visited_as, wanted_at}
+use Rattle.steps.proofs.store.SlotEdits.{scan_kept, spots_kept}
+use Rattle.steps.proofs.views.CoreState.{good, stored_core}
+
+nothing_given : no_changes ≡ map_of []
+unfolding no_changes
+nothing_given = refl
+
+module _ {A : Type 0} (c : Inside A) (ok : IsCore c) where
+  module _ (phase_is : c.phase ≡ Capture) where
+    pub phase_here : ok.world.phase ≡ Capture
+    phase_here = ok.stands.phase ∙ phase_is
+
+    -- the scan of a core in capture
+    pub scan_here : IsScan c.checkpoint (spots c.checkpoint.kind c.store c.changed.frozen) ok.world.visited ok.world.bound ok.world.given
+    scan_here = subst (λ p. ScansIn p c.checkpoint (spots c.checkpoint.kind c.store c.changed.frozen) ok.world.visited ok.world.bound ok.world.given) phase_here ok.stands.checkpoint.scan
+
+    pub scan_good : ScanKeeps ok.world.kind (at ok.world.catalog ok.world.opening ok.world.number ok.world.log) ok.world.visited ok.world.bound ok.world.frozen ok.world.given
+    scan_good =
+        subst (λ p. ScanKeepsIn p ok.world.kind (at ok.world.catalog ok.world.opening ok.world.number ok.world.log) ok.world.visited ok.world.bound ok.world.frozen ok.world.given) phase_here
+        (good c ok).scan
+
+  -- a frozen key has a record
+  pub recorded : (q : Bytes) → has c.changed.frozen q ≡ true → is_some (versions_in c.store q) ≡ true
+  recorded q e = ap is_some (sym (ok.stands.versions q)) ∙ (good c ok).recorded q (or_right (ok.world.collecting q) (ok.world.frozen q) (ok.stands.frozen q ∙ e))
+
+  -- A SCAN BEGINS
+
+  module _ (log : Log) (bound : ℕ) (empty : Vec (Bytes × Cell) A) (phase_is : c.phase ≡ Resolve) (free : is_held Resolve (view_of c).calls ≡ false)
+      (log_is : log.records ≡ c.log.records ++ Token Capture c.checkpoint.number ∷ []) (bound_is : bound ≡ places c.checkpoint.kind c.store c.changed.frozen) (empty_is : empty.items ≡ []) where
+    abbrev after_begin : Inside A
+    after_begin = record c { log = log; phase = Capture; checkpoint = record c.checkpoint { cursor = 0; bound = bound; captured = empty } }
+
+    begun_scan : IsScan (record c.checkpoint { cursor = 0; bound = bound; captured = empty }) (spots c.checkpoint.kind c.store c.changed.frozen) (λ q. false)
+        (to_visit (is_full c.checkpoint.kind) ok.world.versions ok.world.frozen) no_changes
+    begun_scan =
+        scan_begun (record c.checkpoint { cursor = 0; bound = bound; captured = empty }) (spots c.checkpoint.kind c.store c.changed.frozen)
+        (to_visit (is_full c.checkpoint.kind) ok.world.versions ok.world.frozen) no_changes empty_is refl nothing_given
+        (λ q is.
+        let (i, below, at) = wanted_at c.checkpoint.kind c.store c.changed.frozen ok.world.versions ok.world.frozen ok.stands.versions ok.stands.frozen q is in
+        (i, subst (λ n. i < n) (sym bound_is) below, at))
+
+    pub begin_core : IsCore after_begin
+    begin_core =
+        token_core c ok Capture ok.world.number log.records (number_here c ok log Capture log_is) log refl c.store c.changed
+        (record c.checkpoint { cursor = 0; bound = bound; captured = empty }) c.aside (capture ok.world (is_full c.checkpoint.kind))
+        (more ok.run (Captures (is_full c.checkpoint.kind) (ok.stands.phase ∙ phase_is) (all_started c ok Resolve free) (λ e. ap is_full (sym ok.stands.checkpoint.kind ∙ e))))
+        record {
+          catalog = ok.stands.catalog;
+          opening = ok.stands.opening;
+          log = token_log c ok Capture ok.world.number log.records (number_here c ok log Capture log_is);
+          calls = ok.stands.calls;
+          versions = ok.stands.versions;
+          collecting = ok.stands.collecting;
+          frozen = ok.stands.frozen;
+          locks = ok.stands.locks;
+          phase = refl;
+          checkpoint = record {
+            number = ok.stands.checkpoint.number;
+            finished = ok.stands.checkpoint.finished;
+            kind = ok.stands.checkpoint.kind;
+            place = λ cutting. ap length (before_capture ok.world.number ok.world.number ok.world.log) ∙ ok.stands.checkpoint.place (ap is_cutting (ok.stands.phase ∙ phase_is));
+            scan = begun_scan;
+            waits = ok.stands.checkpoint.waits;
+          };
+        }
+        (ok.aside)
+
+    ends_at : (kind : Kind) → bound ≡ places kind c.store c.changed.frozen → EndsAt kind (view_of c) bound
+    ends_at Full e = e
+    ends_at Partial e = (c.changed.frozen, frozen_is c ok (ap is_cutting phase_is), e)
+
+    pub begin_view : (v : CoreView) → view_of c ≡ v → AdvancesTo Capture v (view_of after_begin)
+    begin_view v same =
+        subst (λ (u : CoreView). AdvancesTo Capture u (view_of after_begin)) same (
+          bound,
+          ends_at c.checkpoint.kind bound_is,
+          ap (λ l. record (view_of after_begin) { log = l }) (entered_log c ok log Capture log_is)
+              ∙ ap (λ l. record (entered (view_of c) Capture) { checkpoint = record (view_of c).checkpoint { cursor = 0; bound = bound; captured = l } }) empty_is,
+        )
+
+module _ {A : Type 0} (c : Inside A) (ok : IsCore c) (store : Slots) (kept : Vec (Bytes × Cell) A) (key : Option Bytes) where
+  abbrev spot : ℕ → Option Bytes
+  spot = spots c.checkpoint.kind c.store c.changed.frozen
+
+  abbrev after_capture : Inside A
+  after_capture = record c { store = store; checkpoint = record c.checkpoint { captured = kept; cursor = c.checkpoint.cursor + 1 } }
+
+  -- one place of a scan
+  pub record IsVisit : Type 0 where
+    pub phase : c.phase ≡ Capture
+    pub left : c.checkpoint.cursor ≢ c.checkpoint.bound
+    pub key_is : key ≡ spot c.checkpoint.cursor
+    pub once : IsSome key → HasKeysOnce c.store
+    pub keys : (slot : ℕ) → key_at store slot ≡ key_at c.store slot
+    pub aside : (slot : ℕ) → aside_at store slot ≡ aside_at c.store slot
+    pub versions : (q : Bytes) → versions_in store q ≡ visited key q (versions_in c.store q)
+    pub kept_is : kept.items ≡ c.checkpoint.captured.items ++ kept_of c.checkpoint.kind (given_of (versions_in c.store) key)
+
+  -- in a list that had been given room
+  pub visit_by :
+      (roomy : List (Bytes × Cell)) (given : Option (Bytes × Cell)) → c.phase ≡ Capture → c.checkpoint.cursor ≢ c.checkpoint.bound → key ≡ spot c.checkpoint.cursor →
+      (IsSome key → HasKeysOnce c.store) →
+      ((slot : ℕ) → key_at store slot ≡ key_at c.store slot) → ((slot : ℕ) → aside_at store slot ≡ aside_at c.store slot) →
+      ((q : Bytes) → versions_in store q ≡ visited key q (versions_in c.store q)) →
+      kept.items ≡ roomy ++ kept_of c.checkpoint.kind given → roomy ≡ c.checkpoint.captured.items → given ≡ given_of (versions_in c.store) key → IsVisit
+  visit_by roomy given phase left key_is once keys aside versions kept_is same_items given_is = record {
+    phase = phase;
+    left = left;
+    key_is = key_is;
+    once = once;
+    keys = keys;
+    aside = aside;
+    versions = versions;
+    kept_is = kept_is ∙ ap (λ l. l ++ kept_of c.checkpoint.kind given) same_items ∙ ap (λ o. c.checkpoint.captured.items ++ kept_of c.checkpoint.kind o) given_is;
+  }
+
+  module _ (is : IsVisit) where
+    below : c.checkpoint.cursor < c.checkpoint.bound
+    below = elim (cases_lt c.checkpoint.cursor c.checkpoint.bound) [
+      | inl lt ↦ lt
+      | inr ge ↦ let most = (scan_here c ok is.phase).within in let same : c.checkpoint.cursor ≡ c.checkpoint.bound = omega (arith, ge, most) in absurd (is.left same)
+    ]
+
+    keeps_slots : KeepsSlots c.store store
+    keeps_slots = record { keys = λ slot q at. is.keys slot ∙ at; aside = λ slot so. sym (is.aside slot) ∙ so }
+
+    -- the core, by the machine's state
+    core_as :
+        (vs : VersionsByKey) (given : Changes) (seen : Bytes → Bool) → Runs (initial c.catalog (table_of c.opening)) (record ok.world { versions = vs; given = given; visited = seen }) →
+        ((q : Bytes) → vs q ≡ versions_in store q) → IsScan (record c.checkpoint { captured = kept; cursor = c.checkpoint.cursor + 1 }) spot seen ok.world.bound given → IsCore after_capture
+    core_as vs given seen run versions scan =
+        stored_core c ok store c.aside kept (c.checkpoint.cursor + 1) c.checkpoint.waiting vs given seen run versions
+        (subst (λ p. ScansIn p (record c.checkpoint { captured = kept; cursor = c.checkpoint.cursor + 1 }) (spots c.checkpoint.kind store c.changed.frozen) seen ok.world.bound given)
+        (sym (phase_here c ok is.phase))
+        (scan_kept Capture (record c.checkpoint { captured = kept; cursor = c.checkpoint.cursor + 1 }) spot (spots c.checkpoint.kind store c.changed.frozen) seen ok.world.bound given
+        (spots_kept c.checkpoint.kind c.store store c.changed.frozen keeps_slots) scan))
+        ok.stands.checkpoint.waits (aside_kept c.aside c.store store (either c.changed) (either c.changed) c.locks c.locks keeps_slots (λ q e. e) (λ q e. e) ok.aside)
+
+    -- where no key stands, nothing is visited
+    vacant_core : key ≡ None → IsCore after_capture
+    vacant_core none =
+        core_as ok.world.versions ok.world.given ok.world.visited ok.run
+        (λ q. ok.stands.versions q ∙ sym (is.versions q ∙ ap (λ o. visited o q (versions_in c.store q)) none))
+        (scan_on c.checkpoint kept spot ok.world.visited ok.world.visited ok.world.bound ok.world.given ok.world.given key (scan_here c ok is.phase) (sym is.key_is) below
+        (λ q seen. inl seen) (λ q seen. seen) (λ q here. absurd (let no : None ≡ Some q = sym none ∙ here in cc))
+        ((scan_here c ok is.phase).captured ∙ ap map_of (sym same_items)) (subst Once (sym same_items) (scan_here c ok is.phase).once))
+      where
+        same_items : kept.items ≡ c.checkpoint.captured.items
+        same_items = is.kept_is ∙ ap (λ o. c.checkpoint.captured.items ++ kept_of c.checkpoint.kind (given_of (versions_in c.store) o)) none ∙ append-nil c.checkpoint.captured.items
+
+    module _ (k : Bytes) (here : key ≡ Some k) where
+      at_cursor : spot c.checkpoint.cursor ≡ Some k
+      at_cursor = sym is.key_is ∙ here
+
+      found : (v : KeyVersions) × (versions_in c.store k ≡ Some v)
+      found = the_version (versions_in c.store k) (recorded_at c.checkpoint.kind c.store c.changed.frozen c.checkpoint.cursor k (recorded c ok) at_cursor)
+
+      abbrev v : KeyVersions
+      v = found.0
+
+      unvisited : ok.world.visited k ≡ false
+      unvisited = by (ok.world.visited k) refl
+        where
+          by : (b : Bool) → ok.world.visited k ≡ b → b ≡ false
+          by false e = refl
+          by true e =
+              let (i, before, there) = (scan_here c ok is.phase).visited k e in
+              let same : i ≡ c.checkpoint.cursor = one_spot c.checkpoint.kind c.store c.changed.frozen i c.checkpoint.cursor k (is.once (some_key key k here)) there at_cursor in
+              absurd (omega (arith, before, same))
+
+      may : MayVisit ok.world k v
+      may = record { phase = (phase_here c ok is.phase); is = ok.stands.versions k ∙ found.1; unvisited = unvisited }
+
+      new_entry : change_at (map_of c.checkpoint.captured.items) k ≡ None
+      new_entry =
+          ap (λ (m : Changes). change_at m k) (sym (scan_here c ok is.phase).captured) ∙ (scan_good c ok is.phase).entries k
+          ∙ ap (λ b. cond b (keeps ok.world.kind (ok.world.frozen k) (Some (value_at (at ok.world.catalog ok.world.opening ok.world.number ok.world.log) k))) None) unvisited
+
+      items_are : kept.items ≡ c.checkpoint.captured.items ++ kept_of c.checkpoint.kind (option_map (λ y. (k, y)) (gives v))
+      items_are =
+          is.kept_is
+          ∙ ap (λ o. c.checkpoint.captured.items ++ kept_of c.checkpoint.kind (given_of (versions_in c.store) o)) here
+          ∙ ap (λ o. c.checkpoint.captured.items ++ kept_of c.checkpoint.kind (given_at k o)) found.1
+
+      frozen_here : ok.world.kind ≡ Partial → ok.world.frozen k ≡ true
+      frozen_here e = ok.stands.frozen k ∙ frozen_at c.checkpoint.kind c.store c.changed.frozen c.checkpoint.cursor k at_cursor (sym ok.stands.checkpoint.kind ∙ e)
+
+      visited_core : IsCore after_capture
+      visited_core =
+          core_as (visit ok.world k v).versions (visit ok.world k v).given (with_key k ok.world.visited) (more ok.run (Visits k v may))
+          (λ q. visited_as (versions_in c.store) ok.world.versions k v q ok.stands.versions found.1 ∙ sym (is.versions q ∙ ap (λ o. visited o q (versions_in c.store q)) here))
+          (scan_on c.checkpoint kept spot ok.world.visited (with_key k ok.world.visited) ok.world.bound ok.world.given (visit ok.world k v).given key (scan_here c ok is.phase) (sym is.key_is) below
+          grown (λ q seen. or_right (same q k) (ok.world.visited q) seen) (λ q this. now q (same_Some (sym here ∙ this)))
+          (given_more ok.world.kind k (ok.world.frozen k) (gives v) ok.world.given c.checkpoint.captured.items frozen_here (scan_here c ok is.phase).captured
+          ∙ ap (λ kind. map_of (c.checkpoint.captured.items ++ kept_of kind (option_map (λ y. (k, y)) (gives v)))) ok.stands.checkpoint.kind
+          ∙ ap map_of (sym items_are))
+          (subst Once (sym items_are) (once_more c.checkpoint.kind k (gives v) c.checkpoint.captured.items new_entry (scan_here c ok is.phase).once)))
+        where
+          grown : (q : Bytes) → (same q k || ok.world.visited q) ≡ true → (ok.world.visited q ≡ true) ⊎ (key ≡ Some q)
+          grown q e =
+              elim (keys q k) [
+                | inl p ↦ inr (here ∙ ap (λ (z : Bytes). Some z) (sym p))
+                | inr f ↦ inl (sym (ap (λ b. b || ok.world.visited q) f) ∙ e)
+              ]
+
+          now : (q : Bytes) → k ≡ q → (same q k || ok.world.visited q) ≡ true
+          now q e = ap (λ b. b || ok.world.visited q) (ap (λ z. same z k) (sym e) ∙ same_refl k)
+
+    pub capture_core : IsCore after_capture
+    capture_core = by key refl
+      where
+        by : (o : Option Bytes) → key ≡ o → IsCore after_capture
+        by None e = vacant_core e
+        by (Some k) e = visited_core k e
+
+    visits_next : (kind : Kind) → key ≡ spots kind c.store c.changed.frozen c.checkpoint.cursor → VisitsNext kind (view_of c) key
+    visits_next Full e = e
+    visits_next Partial e = (c.changed.frozen, frozen_is c ok (ap is_cutting is.phase), e)
+
+    pub capture_view : (u : CoreView) → view_of c ≡ u → CapturesAs Slot u (view_of after_capture)
+    capture_view u same =
+        subst (λ (u : CoreView). CapturesAs Slot u (view_of after_capture)) same
+        record {
+          key = key;
+          next = visits_next c.checkpoint.kind is.key_is;
+          below = below;
+          rest =
+              ap (λ n. record (view_of c) { slots = store; checkpoint = record (view_of c).checkpoint { cursor = n; captured = kept.items } }) one
+              ∙ ap (λ l. record (view_of c) { slots = store; checkpoint = record (view_of c).checkpoint { cursor = suc c.checkpoint.cursor; captured = l } }) is.kept_is;
+          slots = is.keys;
+          versions = is.versions;
+        }
+      where
+        one : c.checkpoint.cursor + 1 ≡ suc c.checkpoint.cursor
+        one = omega arith
+
+module _ {A : Type 0} where
+  scan_room :
+      (p : Phase) (k : Checkpoint A) (kept : Vec (Bytes × Cell) A) (spot : ℕ → Option Bytes) (seen wanted : Bytes → Bool) (given : Changes) → kept.items ≡ k.captured.items →
+      ScansIn p k spot seen wanted given → ScansIn p (record k { captured = kept }) spot seen wanted given
+  scan_room Capture k kept spot seen wanted given e scan = record {
+    visited = scan.visited;
+    to_visit = scan.to_visit;
+    within = scan.within;
+    captured = scan.captured ∙ ap map_of (sym e);
+    once =
+        subst Once (sym e) scan.once;
+  }
+  scan_room Rest k kept spot seen wanted given e scan = tt
+  scan_room Prepare k kept spot seen wanted given e scan = tt
+  scan_room Resolve k kept spot seen wanted given e scan = tt
+  scan_room Complete k kept spot seen wanted given e scan = tt
+
+  module _ (c : Inside A) (ok : IsCore c) (kept : Vec (Bytes × Cell) A) (same_items : kept.items ≡ c.checkpoint.captured.items) where
+    abbrev with_room : Slots → Inside A
+    with_room store = record c { store = store; checkpoint = record c.checkpoint { captured = kept } }
+
+    -- more room for entries changes nothing that stands for the machine
+    pub roomy_scan : (store : Slots) → store ≡ c.store → IsCore (with_room store)
+    roomy_scan store e =
+        subst (λ (s : Slots). IsCore (with_room s)) (sym e)
+        (stored_core c ok c.store c.aside kept c.checkpoint.cursor c.checkpoint.waiting ok.world.versions ok.world.given ok.world.visited ok.run ok.stands.versions
+        (scan_room ok.world.phase c.checkpoint kept _ ok.world.visited ok.world.bound ok.world.given same_items ok.stands.checkpoint.scan) ok.stands.checkpoint.waits ok.aside)
+
+    pub roomy_scan_view : (v : CoreView) → view_of c ≡ v → (store : Slots) → store ≡ c.store → view_of (with_room store) ≡ v
+    roomy_scan_view v same store e =
+        ap (λ l. record (view_of c) { slots = store; checkpoint = record (view_of c).checkpoint { captured = l } }) same_items
+        ∙ ap (λ (s : Slots). record (view_of c) { slots = s }) e ∙ same

@@ -1,0 +1,285 @@
+-- A core whose image is finished.
+use Rattle.std.proofs.Common.{◌≡◌, ℕ, ◌+◌, ◌<◌, ◌≤◌, inl, inr, arith, Bool, true, false, cond, List, [], ◌∷◌, ◌++◌, get_or, reverse, Option, Some, None, is_some, Vec, refl, sym, ap, ◌∙◌, subst, true≢false}
+use Rattle.std.specs.Prelude.{IsSome, nat_lt}
+use Rattle.std.specs.Cmp.Lexicographic.{nat_list_cmp_total}
+use Rattle.std.specs.FinMap as fin
+use Rattle.std.proofs.lemmas.Bool.{ltb-false}
+use Rattle.std.proofs.lemmas.List.Sums.{sum_by-cons}
+use Rattle.procedure.specs.Bytes.{Bytes, Cell, same}
+use Rattle.procedure.specs.Procedures.{Procedure}
+use Rattle.procedure.specs.Table.{Changes, Table, change_at, value_at}
+use Rattle.procedure.proofs.Base.{keys, same_refl}
+use Rattle.phase.specs.declared.phases.Phase.TheVariants.{Capture, Complete}
+use Rattle.commitlog.specs.Cuts as cuts
+use Rattle.commitlog.specs.Logs.{Log}
+use Rattle.commitlog.specs.Records.{Record, Token}
+use Rattle.image.proofs.Joins.{is_true}
+use Rattle.image.proofs.Rising.{by_bytes, find_at}
+use Rattle.image.proofs.Sorting.{changes_of-captured}
+use Rattle.image.specs.Headers.{EachKeyOnce, map_of, of_captured}
+use Rattle.image.specs.Images as taken
+use Rattle.image.specs.Images.{AllPresent, IsLawfulImage, SuitsKind}
+use Rattle.image.specs.Merges.{table_of}
+use Rattle.image.specs.declared.images.Kind.{Kind}
+use Rattle.image.specs.declared.images.Kind.TheVariants.{Full, Partial}
+use Rattle.image.specs.declared.limits.TheConstants.{ENTRIES}
+use Rattle.record_store.proofs.Versions.{version_of-new}
+use Rattle.record_store.specs.ChangedSets.{ChangedSets, has, empty_set}
+use Rattle.record_store.specs.Stores as store
+use Rattle.record_store.specs.Versions as stored
+use Rattle.record_store.specs.declared.limits.TheConstants.{STORE_RECORDS}
+use Rattle.steps.specs.machine.NewestFirst.{MachineImage, IsCut, at, before, history_last_finished, history_number, since}
+use Rattle.steps.specs.Checkpointing.{AdvancesTo, IsImageOf, entered}
+use Rattle.steps.specs.inside.CoreFields.{IsCore, view_of}
+use Rattle.steps.specs.CoreViews.{CoreView}
+use Rattle.steps.specs.CutImages.{IsCutOf, IsOfKind}
+use Rattle.steps.specs.machine.Invariant.{IsFinishedImage}
+use Rattle.steps.specs.Refusals.{is_cutting}
+use Rattle.steps.specs.Promises.{machine_plain}
+use Rattle.steps.specs.inside.CheckpointFields.{machine_image}
+use Rattle.steps.specs.machine.Machine.{Completes, Runs, State, base_at, complete, image, initial, keeps, more}
+use Rattle.steps.specs.declared.checkpoints.Checkpoint.{Checkpoint}
+use Rattle.steps.specs.declared.cores.Core.TheInside.{Inside}
+use Rattle.steps.proofs.scans.CapturingCore.{phase_here, recorded, scan_good, scan_here}
+use Rattle.steps.proofs.log.Cuts.{at_cut-reverse, written-reverse}
+use Rattle.steps.proofs.phases.AddedToken.{number_is, token_log, token_core}
+use Rattle.steps.proofs.machine.CallInvariant.{initial_good}
+use Rattle.steps.proofs.phases.FrozenKeys.{base_here, base_place, cuts_here, place_here}
+use Rattle.steps.proofs.machine.HistoryGrowth.{finished_below, pending}
+use Rattle.steps.proofs.machine.OpenCalls.{same_Some}
+use Rattle.steps.proofs.phases.ResolveAndRest.{entered_log, none_in_empty, number_here}
+use Rattle.steps.proofs.scans.ScanPlaces.{recorded_at}
+use Rattle.steps.proofs.store.KeyCount.{at_most_one, same_is, version_of-other, version_of-vacant, version_there}
+use Rattle.steps.proofs.views.CoreState.{good}
+use Rattle.steps.proofs.machine.ScheduleInvariant.{runs_good}
+use Rattle.steps.specs.declared.reclaiming.Aside.TheVariants.{Unknown}
+
+-- THE ENTRIES, EACH OF A KEY THAT HAS A RECORD
+
+not_there : (o : Option Cell) → (is_some o ≡ true → ⊥) → o ≡ None
+not_there None f = refl
+not_there (Some x) f = absurd (f refl)
+
+few_changes : (slots : store.Slots) (m : Changes) → ((q : Bytes) → is_some (change_at m q) ≡ true → is_some (stored.version_of slots q) ≡ true) → fin.len m ≤ store.records slots
+few_changes [] m f =
+    let none : m ≡ fin.empty =
+    fin.same_map nat_list_cmp_total (fin.slice_cmp-IsAntisymmetric fin.nat_cmp-IsAntisymmetric) m fin.empty
+    (λ q. not_there (change_at m q) (λ e. true≢false (sym (f q e) ∙ ap is_some (version_of-new q))) ∙ sym (fin.get-empty by_bytes q)) in
+    subst (λ n. n ≤ 0) (sym (ap fin.len none ∙ fin.len-empty by_bytes Cell)) (omega arith)
+few_changes (None ∷ slots) m f = few_changes slots m (λ q e. sym (ap is_some (version_of-vacant slots q)) ∙ f q e)
+few_changes (Some r ∷ slots) m f =
+    let less = few_changes slots (fin.remove m r.key) (λ q e. elim (keys q r.key) [
+      | inl is ↦
+          absurd
+          (true≢false (sym e ∙ ap is_some (fin.get-remove nat_list_cmp_total m r.key q ∙ ap (λ b. cond b None (change_at m q)) (sym (same_is q r.key) ∙ ap (λ k. same k r.key) is ∙ same_refl r.key))))
+      | inr n ↦
+          sym (ap is_some (version_of-other r slots q n)) ∙ f q (sym (ap is_some (fin.get-remove nat_list_cmp_total m r.key q ∙ ap (λ b. cond b None (change_at m q)) (sym (same_is q r.key) ∙ n))) ∙ e)
+    ]) in
+    subst (λ n. fin.len m ≤ n) (sym (sum_by-cons (λ (o : Option store.StoreRecord). cond (is_some o) 1 0) (Some r) slots))
+    (at_most_one (fin.contains_key m r.key) (fin.len (fin.remove m r.key)) (fin.len m) (store.records slots) (fin.len-remove nat_list_cmp_total m r.key) less)
+
+visited_by : (b : Bool) (o : Option Cell) → is_some (cond b o None) ≡ true → b ≡ true
+visited_by true o e = refl
+visited_by false o e = absurd (true≢false (sym e))
+
+-- an entry of a full image is present
+present_by : (b fro : Bool) (y x : Cell) → cond b (keeps Full fro (Some y)) None ≡ Some x → IsSome x
+present_by true fro (Some z) x e = ap is_some (sym (same_Some e))
+present_by true fro None x e = absurd (cc)
+present_by false fro y x e = absurd (cc)
+
+in_partial : (b : Bool) (x : Cell) → cond b (Some x) None ≡ cuts.in_partial b x
+in_partial true x = refl
+in_partial false x = refl
+
+module _ {A : Type 0} where
+  -- the image of entries that were taken from a checkpoint
+  abbrev pub image_at : Checkpoint A → List taken.Entry → taken.Image
+  image_at k es = of_captured k.kind k.number (base_at k.kind k.number k.finished) k.place es
+
+  pub same_image : (k : Checkpoint A) (v : Vec (Bytes × Cell) A) (i : taken.Image) → i ≡ image_at k v.items → v ≡ k.captured → i ≡ image_at k k.captured.items
+  same_image k v i e f = e ∙ ap (λ (u : Vec (Bytes × Cell) A). image_at k u.items) f
+
+  pub same_once : (k : Checkpoint A) (v : Vec (Bytes × Cell) A) → v ≡ k.captured → EachKeyOnce k.captured.items → EachKeyOnce v.items
+  same_once k v f once = subst (λ (u : Vec (Bytes × Cell) A). EachKeyOnce u.items) (sym f) once
+
+  pub same_lawful : (k : Checkpoint A) (v : Vec (Bytes × Cell) A) → v ≡ k.captured → IsLawfulImage (image_at k k.captured.items) → IsLawfulImage (image_at k v.items)
+  same_lawful k v f lawful = subst (λ (u : Vec (Bytes × Cell) A). IsLawfulImage (image_at k u.items)) (sym f) lawful
+
+module _ {A : Type 0} (c : Inside A) (ok : IsCore c) (phase_is : c.phase ≡ Capture) where
+  abbrev w : State
+  w = ok.world
+
+  abbrev entries : Changes
+  entries = map_of c.checkpoint.captured.items
+
+  -- the image as the core makes it
+  abbrev made : taken.Image
+  made = image_at c.checkpoint c.checkpoint.captured.items
+
+  cutting : is_cutting c.phase ≡ true
+  cutting = ap is_cutting phase_is
+
+  -- IT IS LAWFUL
+
+  abbrev at_token : Table
+  at_token = at w.catalog w.opening w.number w.log
+
+  entry_is : (q : Bytes) → change_at entries q ≡ cond (w.visited q) (keeps c.checkpoint.kind (w.frozen q) (Some (value_at at_token q))) None
+  entry_is q =
+      ap (λ (m : Changes). change_at m q) (sym (scan_here c ok phase_is).captured) ∙ (scan_good c ok phase_is).entries q
+      ∙ ap (λ k. cond (w.visited q) (keeps k (w.frozen q) (Some (value_at at_token q))) None) ok.stands.checkpoint.kind
+
+  has_record : (q : Bytes) → is_some (change_at entries q) ≡ true → is_some (stored.version_of c.store q) ≡ true
+  has_record q e =
+      let (i, before, there) = (scan_here c ok phase_is).visited q (visited_by (w.visited q) _ (sym (ap is_some (entry_is q)) ∙ e)) in
+      version_there c.store q (recorded_at c.checkpoint.kind c.store c.changed.frozen i q (recorded c ok) there)
+
+  present : c.checkpoint.kind ≡ Full → AllPresent (fin.entries entries)
+  present full k d within =
+      let e = get_or (fin.entries entries) k d in
+      let held : change_at entries e.0 ≡ Some e.1 = fin.get-entries entries e.0 ∙ find_at (fin.entries entries) k d (fin.entries_sorted entries) within in
+      present_by (w.visited e.0) (w.frozen e.0) (value_at at_token e.0) e.1
+      (ap (λ k. cond (w.visited e.0) (keeps k (w.frozen e.0) (Some (value_at at_token e.0))) None) (sym full) ∙ sym (entry_is e.0) ∙ held)
+
+  base_below : c.checkpoint.finished < c.checkpoint.number
+  base_below =
+      let l = (good c ok).lawful in
+      let low = subst (λ p. history_last_finished w.log + pending p ≤ history_number w.log) (l.phase ∙ phase_here c ok phase_is) (finished_below w.log l.cyclic) in
+      let f = l.finished in
+      let n = l.number in
+      let g = ok.stands.checkpoint.finished in
+      let m = ok.stands.checkpoint.number in
+      omega (arith, low, f, n, g, m)
+
+  suits : (kind : Kind) → c.checkpoint.kind ≡ kind → SuitsKind kind c.checkpoint.number (base_at kind c.checkpoint.number c.checkpoint.finished) (fin.entries entries)
+  suits Full e = (refl, present e)
+  suits Partial e = base_below
+
+  pub made_lawful : store.records c.store ≤ STORE_RECORDS → IsLawfulImage made
+  made_lawful most = record {
+    few =
+        let few = few_changes c.store entries has_record in
+        subst (λ n. n ≤ ENTRIES) (fin.len-entries entries) (omega (arith, few, most));
+    rises = is_true _ (fin.entries_sorted entries);
+    kind = suits c.checkpoint.kind refl;
+  }
+
+  -- IT IS THE MACHINE'S
+
+  abbrev image_with : Kind → (number finished place : ℕ) → Changes → MachineImage
+  image_with kind number finished place g = record { kind = kind; number = number; base = base_at kind number finished; place = place; entries = g }
+
+  machine_is : machine_image made ≡ image w
+  machine_is =
+      ap (image_with c.checkpoint.kind c.checkpoint.number c.checkpoint.finished c.checkpoint.place)
+      (changes_of-captured c.checkpoint.kind c.checkpoint.number (base_at c.checkpoint.kind c.checkpoint.number c.checkpoint.finished) c.checkpoint.place c.checkpoint.captured.items
+      ∙ sym (scan_here c ok phase_is).captured)
+      ∙ ap (λ k. image_with k c.checkpoint.number c.checkpoint.finished c.checkpoint.place w.given) (sym ok.stands.checkpoint.kind)
+      ∙ ap (λ n. image_with w.kind n c.checkpoint.finished c.checkpoint.place w.given) (sym ok.stands.checkpoint.number)
+      ∙ ap (λ f. image_with w.kind w.number f c.checkpoint.place w.given) (sym ok.stands.checkpoint.finished)
+      ∙ ap (λ p. image_with w.kind w.number w.finished p w.given) (sym (ok.stands.checkpoint.place (ap is_cutting (phase_here c ok phase_is))))
+
+  module _ (all : (q : Bytes) → w.bound q ≡ true → w.visited q ≡ true) where
+    pub completes : Runs (initial c.catalog (table_of c.opening)) (complete w)
+    completes = more ok.run (Completes (phase_here c ok phase_is) all)
+
+    cut_taken : IsFinishedImage w.catalog w.opening (Token Complete w.number ∷ w.log) w.number (image w)
+    cut_taken = (runs_good completes (initial_good c.catalog (table_of c.opening))).images.0
+
+    before_complete : before w.number (Token Complete w.number ∷ w.log) ≡ before w.number w.log
+    unfolding before
+    before_complete = refl
+
+    cut_is : IsCut w.catalog w.opening (before w.number w.log) w.kind (image w)
+    cut_is = subst (λ h. IsCut w.catalog w.opening h w.kind (image w)) before_complete cut_taken.cut
+
+    table_is : cuts.at_cut w.catalog w.opening (reverse w.log) w.number ≡ at_token
+    table_is = at_cut-reverse w.catalog w.opening w.number w.log (place_here c ok cutting)
+
+    of_kind : (k : Kind) → IsCut w.catalog w.opening (before w.number w.log) k (image w) → IsOfKind k w.catalog w.opening (reverse w.log) (machine_plain (image w))
+    of_kind Full x = record {
+      base = x.base;
+      place = x.place ∙ sym (place_here c ok cutting);
+      entries = λ q. x.entries q ∙ ap (λ (u : Table). cuts.in_full (value_at u q)) (sym table_is);
+    }
+    of_kind Partial x = record {
+      base = based ∙ sym (base_here c ok cutting);
+      place = x.place ∙ sym (place_here c ok cutting);
+      entries = λ q.
+          x.entries q
+          ∙ in_partial (since w.catalog w.opening (history_last_finished (before w.number w.log)) (before w.number w.log) q) (value_at at_token q)
+          ∙ ap (λ n. cuts.in_partial (since w.catalog w.opening n (before w.number w.log) q) (value_at at_token q)) (cuts_here c ok cutting).base
+          ∙ ap (λ b. cuts.in_partial b (value_at at_token q))
+          (sym (written-reverse w.catalog w.opening w.finished w.number w.log q (base_place c ok cutting) (place_here c ok cutting) (cuts_here c ok cutting).inner))
+          ∙ ap (λ n. cuts.in_partial (cuts.written w.catalog w.opening (reverse w.log) (cuts.cut (reverse w.log) n) (cuts.cut (reverse w.log) w.number) q) (value_at at_token q)) (sym based)
+          ∙ ap (λ (u : Table). cuts.in_partial (cuts.written w.catalog w.opening (reverse w.log) (cuts.cut (reverse w.log) (image w).base) (cuts.cut (reverse w.log) w.number) q) (value_at u q))
+          (sym table_is);
+    }
+      where
+        based : (image w).base ≡ w.finished
+        based = x.base ∙ (cuts_here c ok cutting).base
+
+    abbrev Said : List Procedure → Table → List Record → MachineImage → Type 0
+    Said k t l i = IsOfKind i.kind k t l (machine_plain i)
+
+    made_cut : IsCutOf c.catalog (table_of c.opening) c.log.records made
+    made_cut =
+        subst (Said c.catalog (table_of c.opening) c.log.records) (sym machine_is)
+        (subst (λ l. Said c.catalog (table_of c.opening) l (image w)) ok.stands.log
+        (subst (λ t. Said c.catalog t (reverse w.log) (image w)) ok.stands.opening
+        (subst (λ k. Said k w.opening (reverse w.log) (image w)) ok.stands.catalog (of_kind w.kind cut_is))))
+
+    pub made_is : (i : taken.Image) → i ≡ made → IsImageOf (view_of c) i
+    made_is i e = subst (IsImageOf (view_of c)) (sym e) record {
+      kind = refl;
+      number = sym ok.stands.checkpoint.number ∙ number_is c ok;
+      cut = made_cut;
+    }
+
+  module _ (log : Log) (changed : ChangedSets) (empty : Vec (Bytes × Cell) A) (i : taken.Image) (scanned : nat_lt c.checkpoint.cursor c.checkpoint.bound ≡ false)
+      (log_is : log.records ≡ c.log.records ++ Token Complete c.checkpoint.number ∷ []) (changed_is : changed ≡ record c.changed { frozen = empty_set }) (i_is : i ≡ made)
+      (empty_is : empty.items ≡ []) where
+    abbrev after_complete : Inside A
+    after_complete =
+        record c { log = log; changed = changed; phase = Complete; checkpoint = record c.checkpoint { finished = c.checkpoint.number; captured = empty; waiting = Some i }; aside = Unknown }
+
+    all_visited : (q : Bytes) → w.bound q ≡ true → w.visited q ≡ true
+    all_visited q wanted =
+        let (j, below, there, then) = (scan_here c ok phase_is).to_visit q wanted in
+        let past = ltb-false c.checkpoint.cursor c.checkpoint.bound scanned in
+        then (omega (arith, below, past))
+
+    pub complete_core : IsCore after_complete
+    complete_core =
+        token_core c ok Complete w.number log.records (number_here c ok log Complete log_is) log refl c.store changed
+        (record c.checkpoint { finished = c.checkpoint.number; captured = empty; waiting = Some i }) Unknown (complete w) (completes all_visited)
+        record {
+          catalog = ok.stands.catalog;
+          opening = ok.stands.opening;
+          log = token_log c ok Complete w.number log.records (number_here c ok log Complete log_is);
+          calls = ok.stands.calls;
+          versions = ok.stands.versions;
+          collecting = λ q. ok.stands.collecting q ∙ ap (λ (s : ChangedSets). has s.collecting q) (sym changed_is);
+          frozen = λ q. sym (ap (λ (s : ChangedSets). has s.frozen q) changed_is ∙ none_in_empty q);
+          locks = ok.stands.locks;
+          phase = refl;
+          checkpoint = record {
+            number = ok.stands.checkpoint.number;
+            finished = ok.stands.checkpoint.number;
+            kind = ok.stands.checkpoint.kind;
+            place = λ cut. absurd (true≢false (sym cut));
+            scan = tt;
+            waits = λ j is. inl (ap machine_image (sym (same_Some is) ∙ i_is) ∙ machine_is);
+          };
+        }
+        (λ slot key there so. tt)
+
+    pub complete_view : (v : CoreView) → view_of c ≡ v → AdvancesTo Complete v (view_of after_complete)
+    complete_view v same =
+        subst (λ (u : CoreView). AdvancesTo Complete u (view_of after_complete)) same (
+          i,
+          made_is all_visited i i_is,
+          ap (λ l. record (view_of after_complete) { log = l }) (entered_log c ok log Complete log_is)
+              ∙ ap (λ l. record (entered (view_of c) Complete) { checkpoint = record (view_of c).checkpoint { captured = l; waiting = Some i } }) empty_is,
+        )

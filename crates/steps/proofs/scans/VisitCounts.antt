@@ -1,0 +1,161 @@
+-- A scan that ends has visited each of its places.
+use Rattle.std.proofs.Common.{◌≡◌, ◌≤◌, ◌+◌, ◌||◌, not, nat_lt, ℕ, suc, arith, Bool, true, false, List, [], ◌∷◌, None, Ok, Err, is_ok, refl, sym, ap, ◌∙◌, subst, true≢false}
+use Rattle.std.specs.declared.result.Result.{Result}
+use Rattle.std.specs.Option.{option_or}
+use Rattle.std.proofs.lemmas.Bool.{ltb-false}
+use Rattle.phase.specs.Phases.{successor}
+use Rattle.phase.specs.declared.phases.Phase.{Phase}
+use Rattle.phase.specs.declared.phases.Phase.TheVariants.{Rest, Prepare, Resolve, Capture, Complete}
+use Rattle.commitlog.specs.Histories.{phase_of}
+use Rattle.steps.specs.Checkpointing.{CapturesAs}
+use Rattle.steps.specs.CoreViews.{CheckpointView, CoreView}
+use Rattle.steps.specs.Refusals.{advance_refusal, is_held, is_log_full, is_rest, is_scanning, refused_unless}
+use Rattle.steps.specs.Schedules.{AbandonsAs, AdvancesAs, BeginsAs, FinishesAs, GivesUpAs, Handles, HandlesAll, StartsAs, StepsAs, VisitsAs}
+use Rattle.steps.specs.Visits.{ScansWhole, any_enters, enters, visits}
+use Rattle.steps.specs.declared.captures.Captured.{Captured}
+use Rattle.steps.specs.declared.captures.Captured.TheVariants.{Slot, Done}
+use Rattle.steps.specs.declared.errors.AdvanceError.TheVariants as advancing
+use Rattle.steps.specs.declared.schedules.Event.{Event}
+use Rattle.steps.specs.declared.schedules.Event.TheVariants as event
+use Rattle.steps.specs.declared.schedules.Reply.{Reply}
+use Rattle.steps.specs.declared.schedules.Reply.TheVariants as reply
+use Rattle.steps.proofs.log.DrivenLog.{open_finish, open_step}
+
+-- the cursor moves by so many places, below the bound
+record Moves (old new : CoreView) (n : ℕ) : Type 0 where
+  cursor : new.checkpoint.cursor ≡ n + old.checkpoint.cursor
+  bound : new.checkpoint.bound ≡ old.checkpoint.bound
+  within : old.checkpoint.cursor ≤ old.checkpoint.bound → new.checkpoint.cursor ≤ new.checkpoint.bound
+
+stays : (old new : CoreView) → new.checkpoint.cursor ≡ old.checkpoint.cursor → new.checkpoint.bound ≡ old.checkpoint.bound → Moves old new 0
+stays old new e f = record { cursor = omega (arith, e); bound = f; within = λ le. omega (arith, e, f, le) }
+
+same_checkpoint : (old new : CoreView) → new.checkpoint ≡ old.checkpoint → Moves old new 0
+same_checkpoint old new e = stays old new (ap (λ (k : CheckpointView). k.cursor) e) (ap (λ (k : CheckpointView). k.bound) e)
+
+nothing : (old new : CoreView) → new ≡ old → Moves old new 0
+nothing old new e = same_checkpoint old new (ap (λ (v : CoreView). v.checkpoint) e)
+
+on : (a b c : CoreView) (m n k : ℕ) → k ≡ m + n → Moves a b m → Moves b c n → Moves a c k
+on a b c m n k e f g = record {
+  cursor = let x = f.cursor in let y = g.cursor in omega (arith, e, x, y);
+  bound = g.bound ∙ f.bound;
+  within = λ le. g.within (f.within le);
+}
+
+one_place : (old new : CoreView) → CapturesAs Slot old new → Moves old new 1
+one_place old new h =
+    let e : new.checkpoint.cursor ≡ suc old.checkpoint.cursor = ap (λ (v : CoreView). v.checkpoint.cursor) h.rest in
+    let f : new.checkpoint.bound ≡ old.checkpoint.bound = ap (λ (v : CoreView). v.checkpoint.bound) h.rest in
+    let below = h.below in
+    record { cursor = omega (arith, e); bound = f; within = λ le. omega (arith, e, f, below) }
+
+-- ONE EVENT
+
+by_capture : (B : Type 0) (old new : CoreView) (r : Result Captured _) → VisitsAs old new r → Moves old new (visits {A = B} (reply.Capture r ∷ []))
+by_capture B old new (Ok Slot) h = one_place old new h.captured
+by_capture B old new (Ok Done) h = nothing old new h.captured.1
+by_capture B old new (Err e) h = nothing old new h.refused
+
+by_begin : (old new : CoreView) (s n p : ℕ) (args : _) (r : Result (Unit {0}) _) → BeginsAs old new s n p args r → Moves old new 0
+by_begin old new s n p args (Ok x) h = same_checkpoint old new (ap (λ (v : CoreView). v.checkpoint) h.begun)
+by_begin old new s n p args (Err e) h = nothing old new h.refused
+
+by_step : (old new : CoreView) (s : ℕ) (r : Result _ _) → StepsAs old new s r → Moves old new 0
+by_step old new s (Ok x) h = let there = open_step old s h.refusal in same_checkpoint old new (h.stepped there.0 there.1).same.checkpoint
+by_step old new s (Err e) h = nothing old new h.refused
+
+by_give_up : (old new : CoreView) (s : ℕ) (r : Result (Unit {0}) _) → GivesUpAs old new s r → Moves old new 0
+by_give_up old new s (Ok x) h = same_checkpoint old new h.given_up.same.checkpoint
+by_give_up old new s (Err e) h = nothing old new h.refused
+
+by_start : (old new : CoreView) (k : _) (r : Result ℕ _) → StartsAs old new k r → is_ok r ≡ false → Moves old new 0
+by_start old new k (Ok x) h e = absurd (true≢false e)
+by_start old new k (Err x) h e = nothing old new h.refused
+
+by_advance : (old new : CoreView) (r : Result Phase _) → AdvancesAs old new r → is_ok r ≡ false → Moves old new 0
+by_advance old new (Ok x) h e = absurd (true≢false e)
+by_advance old new (Err x) h e = nothing old new h.refused
+
+by_abandon : (old new : CoreView) (r : Result ℕ _) → AbandonsAs old new r → is_ok r ≡ false → Moves old new 0
+by_abandon old new (Ok x) h e = absurd (true≢false e)
+by_abandon old new (Err x) h e = nothing old new h.refused
+
+neither : (a b : Bool) → (a || b) ≡ false → (a ≡ false) × (b ≡ false)
+neither true b e = absurd (true≢false e)
+neither false b e = (refl, e)
+
+module _ {A : Type 0} where
+  by_finish : (old new : CoreView) (s : ℕ) (r : Result _ _) → FinishesAs {A = A} old new s r → Moves old new 0
+  by_finish old new s (Ok x) h = let there = open_finish old s h.refusal in same_checkpoint old new (h.finished there.0 there.1).same.checkpoint
+  by_finish old new s (Err e) h = nothing old new h.refused
+
+  one : (e : Event A) (old new : CoreView) (r : Reply A) → Handles e old new r → enters r ≡ false → Moves old new (visits (r ∷ []))
+  one (event.Begin s n p args) old new r (x, is, h) f = subst (λ (y : Reply A). Moves old new (visits (y ∷ []))) (sym is) (by_begin old new s n p _ x h)
+  one (event.Step s) old new r (x, is, h) f = subst (λ (y : Reply A). Moves old new (visits (y ∷ []))) (sym is) (by_step old new s x h)
+  one (event.Finish s) old new r (x, is, h) f = subst (λ (y : Reply A). Moves old new (visits (y ∷ []))) (sym is) (by_finish old new s x h)
+  one (event.GiveUp s) old new r (x, is, h) f = subst (λ (y : Reply A). Moves old new (visits (y ∷ []))) (sym is) (by_give_up old new s x h)
+  one (event.Start k) old new r (x, is, h) f = subst (λ (y : Reply A). Moves old new (visits (y ∷ []))) (sym is) (by_start old new k x h (sym (ap enters is) ∙ f))
+  one event.Advance old new r (x, is, h) f = subst (λ (y : Reply A). Moves old new (visits (y ∷ []))) (sym is) (by_advance old new x h (sym (ap enters is) ∙ f))
+  one event.Capture old new r (x, is, h) f = subst (λ (y : Reply A). Moves old new (visits (y ∷ []))) (sym is) (by_capture A old new x h)
+  one event.TakeImage old new r (x, is, h) f =
+      subst (λ (y : Reply A). Moves old new (visits (y ∷ []))) (sym is) (stays old new (ap (λ (v : CoreView). v.checkpoint.cursor) h.taken) (ap (λ (v : CoreView). v.checkpoint.bound) h.taken))
+  one event.Reclaim old new r (x, is, h) f = subst (λ (y : Reply A). Moves old new (visits (y ∷ []))) (sym is) (same_checkpoint old new (ap (λ (v : CoreView). v.checkpoint) h.reclaimed.rest))
+  one event.Abandon old new r (x, is, h) f = subst (λ (y : Reply A). Moves old new (visits (y ∷ []))) (sym is) (by_abandon old new x h (sym (ap enters is) ∙ f))
+
+  -- ALL OF THEM
+
+  first_more : (r : Reply A) (rs : List (Reply A)) → visits (r ∷ rs) ≡ visits (r ∷ []) + visits rs
+  first_more (reply.Capture (Ok Slot)) rs = omega arith
+  first_more (reply.Capture (Ok Done)) rs = omega arith
+  first_more (reply.Capture (Err e)) rs = omega arith
+  first_more (reply.Begin r) rs = omega arith
+  first_more (reply.Step r) rs = omega arith
+  first_more (reply.Finish r) rs = omega arith
+  first_more (reply.GiveUp r) rs = omega arith
+  first_more (reply.Start r) rs = omega arith
+  first_more (reply.Advance r) rs = omega arith
+  first_more (reply.TakeImage i) rs = omega arith
+  first_more (reply.Reclaim key) rs = omega arith
+  first_more (reply.Abandon r) rs = omega arith
+
+  all : (es : List (Event A)) (rs : List (Reply A)) (old new : CoreView) → HandlesAll es old new rs → any_enters rs ≡ false → Moves old new (visits rs)
+  all [] [] old new h f = nothing old new (sym h)
+  all [] (r ∷ rs) old new h f = absurd h
+  all (e ∷ es) [] old new h f = absurd h
+  all (e ∷ es) (r ∷ rs) old new (between, h, more) f =
+      let parts = neither (enters r) (any_enters rs) f in
+      on old between new (visits (r ∷ [])) (visits rs) (visits (r ∷ rs)) (first_more r rs) (one e old between r h parts.0) (all es rs between new more parts.1)
+
+-- A SCAN THAT ENDS
+
+before_complete : (p : Phase) → Complete ≡ successor p → p ≡ Capture
+before_complete Capture e = refl
+before_complete Rest e = absurd (cc)
+before_complete Prepare e = absurd (cc)
+before_complete Resolve e = absurd (cc)
+before_complete Complete e = absurd (cc)
+
+scanned_by : (rest held scanning full : Bool) → option_or (refused_unless rest advancing.AtRest)
+    (option_or (refused_unless held advancing.StillActive) (option_or (refused_unless (not scanning) advancing.NotScanned) (refused_unless full advancing.LogFull))) ≡ None → scanning ≡ false
+scanned_by false held scanning full e = absurd (cc)
+scanned_by true false scanning full e = absurd (cc)
+scanned_by true true true full e = absurd (cc)
+scanned_by true true false full e = refl
+
+-- where complete is entered no place is left
+scanned : (v : CoreView) → advance_refusal v ≡ None → phase_of v.log ≡ Capture → nat_lt v.checkpoint.cursor v.checkpoint.bound ≡ false
+scanned v e is =
+    ap (λ p. is_scanning p v.checkpoint) (sym is)
+    ∙ scanned_by (not (is_rest (phase_of v.log))) (not (is_held (phase_of v.log) v.calls)) (is_scanning (phase_of v.log) v.checkpoint) (not (is_log_full v)) e
+
+pub scans_whole : (A : Type 0) → ScansWhole A
+scans_whole A es rs before first last after entered handled none ended =
+    let moves = all es rs first last handled none in
+    let zero : first.checkpoint.cursor ≡ 0 = ap (λ (v : CoreView). v.checkpoint.cursor) entered.advanced.2 in
+    let begun : first.checkpoint.cursor ≤ first.checkpoint.bound = omega (arith, zero) in
+    let past = ltb-false last.checkpoint.cursor last.checkpoint.bound (scanned last ended.refusal (before_complete (phase_of last.log) ended.phase)) in
+    let within = moves.within begun in
+    let cursor = moves.cursor in
+    let bound = moves.bound in
+    omega (arith, zero, past, within, cursor, bound)

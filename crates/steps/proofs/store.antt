@@ -1,0 +1,4 @@
+-- Edits of a store's records.
+pub mod RecordEdits
+pub mod SlotEdits
+pub mod KeyCount

@@ -1,0 +1,7 @@
+-- How the fields of a core stand for a state of the machine, and what its own calls do to them.
+pub mod SetAside
+pub mod InstructionLocks
+pub mod CoreFields
+pub mod CheckpointFields
+pub mod Instructions
+pub mod RecordEdits
