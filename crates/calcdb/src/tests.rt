@@ -16,6 +16,7 @@ mod reclaims;
 mod recoveries;
 mod refused_in_calls;
 mod refused_in_images;
+mod refused_in_rings;
 mod refused_in_runs;
 mod rows;
 mod runs;
