@@ -4,6 +4,7 @@ mod checkpoints;
 mod console;
 mod core_calls;
 mod devices;
+mod embedding;
 mod examples;
 mod failing_devices;
 mod fixtures;
