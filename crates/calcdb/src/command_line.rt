@@ -63,7 +63,7 @@ fn required<'a>(alloc: Global, name: &'a str, help: &'a str) -> Arg<'a>
     Arg::new(alloc, name).required(true).help(help)
 }
 
-/// One that is given behind a flag, or not at all.
+/// One that is given after a flag, or not at all.
 fn flagged<'a>(alloc: Global, flag: &'a str, name: &'a str, help: &'a str) -> Arg<'a>
     ensures rule { rule_of result ≡ spec.flagged flag.now name.now }
     ensures local { result.global ≡ false }

@@ -229,7 +229,7 @@ fn kind_of(line: &[u8]) -> Result<Kind, Unread>
     Ok(kind)
 }
 
-/// A command without a word behind its name.
+/// A command without a word after its name.
 fn alone<A: Allocator>(
     command: Command<Arguments<A>>,
     line: &[u8],

@@ -44,7 +44,7 @@ impl From<ScriptFault> for Fault {
 
     ghost from_gives = { λ e f. f ≡ text_fault e };
 
-    /// The fault of a text; want of memory for it is said in a line.
+    /// The fault of a text; out of memory for it is said in a line.
     fn from(fault: ScriptFault) -> Self {
         match fault {
             ScriptFault::Line(number) => Fault::Line(number),

@@ -20,7 +20,7 @@ pub(crate) fn images_of<A: Allocator + Copy>(
 ) -> Result<Vec<Image<A>, A>, Reason>
     ensures ok { IfOk result (λ images. Spell images.items (map (λ f. f.items) files.now)) }
     ensures err { IfErr result (λ r. (r ≡ reason.NoMemory) ⊎ AreRead (map (λ f. f.items) files.now) (Err r)) }
-    // Files are read as one thing at most, and it is answered unless memory is wanting.
+    // Files are read as one thing at most, and it is answered unless there is no memory.
     ensures only { (says : Result (List SpecImage) Reason) → AreRead (map (λ f. f.items) files.now) says → Tells (λ images. images.items) result says }
 {
     let mut images = Vec::new(alloc);

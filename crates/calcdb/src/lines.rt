@@ -32,7 +32,7 @@ fn word_end(line: &[u8]) -> Option<usize>
     line.iter().position(|byte| is_blank(*byte))
 }
 
-/// The first line of a text, and what stands behind its line feed, if it has one.
+/// The first line of a text, and what stands after its line feed, if it has one.
 pub(crate) fn line_at(text: &[u8]) -> (&[u8], Option<&[u8]>)
     ensures pieces { pieces spec.is_line_feed text.now ≡ result.0.now ∷ left_pieces spec.is_line_feed (option_map (λ r. r.now) result.1) }
     ensures shorter { IfSome result.1 (λ r. length r.now < length text.now) }
@@ -43,7 +43,7 @@ pub(crate) fn line_at(text: &[u8]) -> (&[u8], Option<&[u8]>)
     }
 }
 
-/// What stands before the first blank of a line, and what behind it, if there is one.
+/// What stands before the first blank of a line, and what after it, if there is one.
 fn piece_at(line: &[u8]) -> (&[u8], Option<&[u8]>)
     ensures pieces { pieces spec.is_blank line.now ≡ result.0.now ∷ left_pieces spec.is_blank (option_map (λ r. r.now) result.1) }
     ensures shorter { IfSome result.1 (λ r. length r.now < length line.now) }
@@ -76,7 +76,7 @@ pub(crate) fn is_allowed(line: &[u8]) -> bool
     true
 }
 
-/// The first word of a line, if it has one, and what stands behind it.
+/// The first word of a line, if it has one, and what stands after it.
 pub(crate) fn first_word(line: &[u8]) -> Option<(&[u8], &[u8])>
     ensures words { option_map (λ p. (p.0.now, words p.1.now)) result ≡ spec.first_word (words line.now) }
     ensures shorter { IfSome result (λ p. length p.1.now < length line.now) }
@@ -93,7 +93,7 @@ pub(crate) fn first_word(line: &[u8]) -> Option<(&[u8], &[u8])>
     }
 }
 
-/// The first word of a line, and what stands behind it.
+/// The first word of a line, and what stands after it.
 pub(crate) fn word_at(line: &[u8]) -> Result<(&[u8], &[u8]), Unread>
     ensures { ReadsAs (λ p. (p.0.now, words p.1.now)) result (spec.first_word (words line.now)) }
 {

@@ -38,8 +38,8 @@ fn read_merge<A: Allocator + Copy>(alloc: A, files: &[Vec<u8, A>]) -> Result<Ima
     merge_of(alloc, images.as_slice())
 }
 
-/// Merges files of images, a full one and then partial ones that stand on it in turn; answers the merged
-/// image, and writes its header line. Where a file is refused, or else the merge, or memory is wanting,
+/// Merges files of images, a full one and then partial ones with it as base, in turn; returns the merged
+/// image, and writes its header line. Where a file is refused, or else the merge, or there is no memory,
 /// one line says so and nothing else is written. A write that fails, by an interruption too, and a write
 /// of no byte end it.
 pub(crate) fn merge_files<W: Write, A: Allocator + Copy>(

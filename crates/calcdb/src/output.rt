@@ -26,7 +26,7 @@ fn is_graphic(bytes: &[u8]) -> bool
     true
 }
 
-/// A text, behind what is there.
+/// A text, after what is there.
 pub(crate) fn push_text<A: Allocator>(out: &mut Vec<u8, A>, text: &[u8]) -> Result<(), NoMemory>
     ensures { OnOk result (out.new.items ≡ out.old.items ++ text.now) }
 {
@@ -84,7 +84,7 @@ fn push_cell<A: Allocator + Clone, B: Allocator>(
     }
 }
 
-/// Each reply behind a space.
+/// Each reply after a space.
 pub(crate) fn push_replies<A: Allocator + Clone, B: Allocator>(
     out: &mut Vec<u8, A>,
     replies: &[Option<Value<B>>],

@@ -101,7 +101,7 @@ fn read_line<A: Allocator + Clone>(
     read_words(alloc, table, line)
 }
 
-/// Reads one line, and answers what is left behind it.
+/// Reads one line, and returns what is left after it.
 #[tactic(auto, unfolding(crate::specs::Pairs::table_after_lines))]
 fn read_next<'a, A: Allocator + Clone>(
     alloc: A,
@@ -191,7 +191,7 @@ fn load_text<W: Write, A: Allocator + Copy>(
 }
 
 /// Makes the opening image of the pairs that a reader gives, and writes its header line. Where the text
-/// is faulty or memory is wanting, one line says so and nothing else is written. A read or write that
+/// is faulty or there is no memory, one line says so and nothing else is written. A read or write that
 /// fails, by an interruption too, and a write of no byte end it.
 pub(crate) fn load<R: Read, W: Write, A: Allocator + Copy>(
     alloc: A,

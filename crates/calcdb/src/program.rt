@@ -301,9 +301,9 @@ fn concluded<E: Write>(err: &mut E, done: Result<(), Failure<'_>>) -> u8 {
     }
 }
 
-/// Does what the words ask for, of which the first is the program's name, and answers the status of
+/// Does what the words ask for, of which the first is the program's name, and returns the status of
 /// the process: 0 where it is done, also with refusals inside a script; 1 where an input is refused, a
-/// file can't be read or written, or memory is wanting; 2 where the command line is faulty. The command
+/// file can't be read or written, or there is no memory; 2 where the command line is faulty. The command
 /// line takes its memory from the runtime, and the work from `alloc`.
 pub(crate) fn perform<R: Files + AllocGlobal, S: AsStr, O: Write, E: Write, A: Allocator + Copy>(
     alloc: A,
@@ -345,7 +345,7 @@ where
 }
 
 /// What the process does, and its status. Where its words or its buffer aren't to be had, that is for
-/// want of memory, or a word isn't UTF-8.
+/// out of memory, or a word isn't UTF-8.
 pub(crate) fn start<R: Env + Files + AllocGlobal, O: Write + Drop, E: Write>(
     rt: &R,
     out: O,

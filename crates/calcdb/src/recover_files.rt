@@ -43,7 +43,7 @@ fn recover_with<A: Allocator + Copy>(
     Ok(recover(alloc, catalog, images.as_slice(), log)?)
 }
 
-/// The one line of what was recovered, behind what is there.
+/// The one line of what was recovered, after what is there.
 fn push_recovered<A: Allocator, B: Allocator>(
     out: &mut Vec<u8, A>,
     recovered: &Recovered<B>,
@@ -113,7 +113,7 @@ fn recover_from<A: Allocator + Copy>(
     Ok(recover_with(alloc, &catalog, log, files)?)
 }
 
-/// Writes the line of what was recovered, and answers its image.
+/// Writes the line of what was recovered, and returns its image.
 fn finish<W: Write, A: Allocator + Copy>(
     alloc: A,
     writer: &mut W,
@@ -137,7 +137,7 @@ fn finish<W: Write, A: Allocator + Copy>(
 /// procedures of a script, of which the commands aren't looked at. The table is answered as an opening
 /// image, and one line says how many calls were run again, whether the log's end was torn, and how many
 /// keys there are. The first fault is said in one line and nothing else is written: of the script, of the
-/// first image, and then what `recover` refuses; or that memory is wanting. A write that fails, by an
+/// first image, and then what `recover` refuses; or that there is no memory. A write that fails, by an
 /// interruption too, and a write of no byte end it.
 pub(crate) fn recover_files<W: Write, A: Allocator + Copy>(
     alloc: A,

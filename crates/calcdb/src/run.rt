@@ -62,7 +62,7 @@ fn go_on<A: Allocator + Clone>(core: &mut Core<A>, session: u16, count: usize) -
     end_call(core, session)
 }
 
-/// Begins a call, executes it and answers it.
+/// Begins a call, executes it and returns it.
 fn run_call<A: Allocator + Clone>(core: &mut Core<A>, call: NewCall<Arguments<A>>) -> Reply<A>
     ensures { Carried {A = A} (Calls core.old.catalog call) core.old core.new (reply_text result) (image_in result) }
 {
@@ -186,7 +186,7 @@ fn push_reply<A: Allocator + Clone>(out: &mut Vec<u8, A>, reply: &Reply<A>) -> R
     }
 }
 
-/// The lines that are printed of a command, behind what is there.
+/// The lines that are printed of a command, after what is there.
 pub(crate) fn push_shown<A: Allocator + Clone>(
     out: &mut Vec<u8, A>,
     shown: &Shown<A>,
@@ -242,7 +242,7 @@ fn answer<W: Write, A: Allocator + Clone>(
     Ok(())
 }
 
-/// Carries out the commands, each after the line of the one before was written, and answers the images
+/// Carries out the commands, each after the line of the one before was written, and returns the images
 /// that they took, in order.
 pub(crate) fn run_commands<W: Write, A: Allocator + Copy>(
     alloc: A,

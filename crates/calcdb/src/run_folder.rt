@@ -32,7 +32,7 @@ impl<W: Write + Drop> Write for Digesting<W> {
     }
 }
 
-/// Makes the file of the opening, and answers the digest of its bytes.
+/// Makes the file of the opening, and returns the digest of its bytes.
 fn write_opening<'a, R: Files, A: Allocator + Copy>(
     alloc: A,
     rt: &R,

@@ -222,7 +222,7 @@ impl<A: Allocator + Clone> Said<A> {
         self.commands.allocator()
     }
 
-    /// `proc` and what stands behind it, in this line.
+    /// `proc` and what stands after it, in this line.
     #[tactic(auto, unfolding(crate::specs::Scripts::said_after_heading))]
     fn open_block(&mut self, number: u64, line: &[u8]) -> Result<(), Unread>
         requires { self.old.block ≡ None }
@@ -364,7 +364,7 @@ fn blamed(first: Option<u64>, number: u64, behind: Option<&[u8]>) -> u64
     }
 }
 
-/// Reads one line, and answers what is left to be read behind it.
+/// Reads one line, and returns what is left to be read after it.
 #[tactic(auto, unfolding(crate::specs::Scripts::said))]
 fn read_next<'a, A: Allocator + Clone>(
     part: Part,

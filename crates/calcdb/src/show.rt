@@ -22,7 +22,7 @@ use procedure::{Call, NoMemory, Value};
 use std::alloc::Allocator;
 use std::io::Write;
 
-/// Each argument behind a space.
+/// Each argument after a space.
 fn push_arguments<A: Allocator + Clone, B: Allocator>(
     out: &mut Vec<u8, A>,
     arguments: &[Value<B>],
@@ -36,7 +36,7 @@ fn push_arguments<A: Allocator + Clone, B: Allocator>(
     Ok(())
 }
 
-/// A token, behind its place.
+/// A token, after its place.
 fn push_token<A: Allocator>(out: &mut Vec<u8, A>, phase: Phase, number: u64) -> Result<(), NoMemory>
     ensures { OnOk result (out.new.items ≡ out.old.items ++ spec.said_text (Token phase number)) }
 {
@@ -46,7 +46,7 @@ fn push_token<A: Allocator>(out: &mut Vec<u8, A>, phase: Phase, number: u64) -> 
     push_decimal(out, number)
 }
 
-/// A call, behind its place.
+/// A call, after its place.
 fn push_call<A: Allocator, B: Allocator>(
     out: &mut Vec<u8, A>,
     call: &Call<B>,
@@ -63,7 +63,7 @@ fn push_call<A: Allocator, B: Allocator>(
     push_decimal(out, call.args.len() as u64)
 }
 
-/// What a record says, behind its place.
+/// What a record says, after its place.
 fn push_said<A: Allocator + Clone, B: Allocator>(
     out: &mut Vec<u8, A>,
     entry: &LogEntry<B>,
@@ -276,7 +276,7 @@ fn begins_log(bytes: &[u8]) -> bool
 }
 
 /// Writes what bytes say, line by line: a log where they begin as one, and else an image. Bytes that are
-/// neither are refused with one line. Where memory is wanting, a line says so, behind the lines that went
+/// neither are refused with one line. Where there is no memory, a line says so, after the lines that went
 /// out. A write that fails, by an interruption too, and a write of no byte end it.
 pub(crate) fn show<W: Write, A: Allocator + Copy>(
     alloc: A,

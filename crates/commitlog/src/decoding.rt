@@ -186,7 +186,7 @@ fn entry<A: Allocator>(read: (Record<A>, [u8; 32]), length: usize) -> Next<A>
     }
 }
 
-/// What comes at this place, behind the digest of the record before it.
+/// What comes at this place, after the digest of the record before it.
 fn next_of<A: Allocator + Clone>(
     alloc: &A,
     version: Version,

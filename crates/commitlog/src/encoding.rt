@@ -263,7 +263,7 @@ fn call_length<A: Allocator>(call: &Call<A>, outcome: u8, replies: &[Option<Valu
     16 + values_length(call.args.as_slice()) + replies_length(replies)
 }
 
-/// Writes a record behind the digest of those before it, and answers its own. Room is made before.
+/// Writes a record after the digest of those before it, and returns its own. Room is made before.
 pub(crate) fn write_record<A: Allocator>(
     out: &mut Vec<u8, A>,
     digest: &[u8; 32],

@@ -296,7 +296,7 @@ fn another_version(rt: HostRuntime) {
     assert_eq!(rt; read, Seen::Refused(LogError::Damaged(0)));
 }
 
-/// A stated length behind a header, and what is read of it in version 1 and in version 2.
+/// A stated length after a header, and what is read of it in version 1 and in version 2.
 const STATED: [(u32, Seen, Seen); 5] = [
     (0, Seen::Torn(0), Seen::Torn(0)),
     (18_656, Seen::Torn(0), Seen::Torn(0)),

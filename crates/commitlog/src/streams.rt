@@ -75,7 +75,7 @@ impl From<AllocError> for ReadError {
     }
 }
 
-/// Writes a record by way of the buffer, and answers its digest.
+/// Writes a record by way of the buffer, and returns its digest.
 fn write_out_record<W: Write, A: Allocator>(
     writer: &mut W,
     buffer: &mut Vec<u8, A>,

@@ -75,7 +75,7 @@ fn turned(alloc: Global, bytes: &[u8], place: usize) -> Result<Option<ReadError>
     Ok(refusal(alloc, altered(alloc, bytes, place, !byte)?.as_slice()))
 }
 
-/// The bytes, and behind them their digest.
+/// The bytes, and after them their digest.
 fn signed(alloc: Global, bytes: &[u8]) -> Result<Vec<u8>, Fail> {
     let mut copy = Vec::from_slice(alloc, bytes)?;
     copy.extend_from_slice(&Sha256::digest(bytes))?;

@@ -73,7 +73,7 @@ fn entry_at<'a>(bytes: &'a [u8]) -> Option<(Piece<'a>, &'a [u8])>
     Some((Piece { key, cell }, rest))
 }
 
-/// So many entries, which are put behind those found before, and what stands after them; None where
+/// So many entries, which are put after those found before, and what stands after them; None where
 /// they aren't wholly there, or a tag is neither 0 nor 1.
 pub(crate) fn entries_at<'a, A: Allocator>(
     found: &mut Vec<Piece<'a>, A>,
@@ -93,7 +93,7 @@ pub(crate) fn entries_at<'a, A: Allocator>(
     Ok(Some(rest))
 }
 
-/// A block of so many entries, put behind those found before, and what stands after it; None where it
+/// A block of so many entries, put after those found before, and what stands after it; None where it
 /// isn't wholly there, or a tag is neither 0 nor 1, or the digest is another. The digest before the
 /// block becomes the block's.
 #[tactic(auto, unfolding(crate::specs::Fronts::block_at))]
@@ -118,7 +118,7 @@ fn block_at<'a, A: Allocator>(
     Ok(Some(rest))
 }
 
-/// So many entries in blocks, put behind those found before, and what stands after them.
+/// So many entries in blocks, put after those found before, and what stands after them.
 pub(crate) fn blocks_at<'a, A: Allocator>(
     found: &mut Vec<Piece<'a>, A>,
     digest: [u8; 32],

@@ -22,11 +22,11 @@ use std::marker::Model;
 pub enum Kind {
     /// They are absent.
     Full,
-    /// They are as in the image on which it stands.
+    /// They are as in the image that is its base.
     Partial,
 }
 
-/// What a checkpoint leaves: its number, that of the image on which it stands (its own, in a full
+/// What a checkpoint leaves: its number, that of the image that is its base (its own, in a full
 /// image), its place in the log, and entries.
 ///
 /// It is lawful by its type: the keys strictly rise, there are at most 100,000 entries, a full image
@@ -154,7 +154,7 @@ impl<A: Allocator> Image<A> {
         self.number
     }
 
-    /// The number of the image on which it stands; in a full image its own.
+    /// The number of the image that is its base; in a full image its own.
     pub fn base(&self) -> u64
         ensures { result ≡ self.now.base }
     {

@@ -107,7 +107,7 @@ pub(crate) fn write_signed_header<A: Allocator, B: Allocator>(
     Ok(digest)
 }
 
-/// A block of entries and the digest behind it, which is handed back.
+/// A block of entries and the digest after it, which is handed back.
 pub(crate) fn write_block<A: Allocator, B: Allocator>(
     out: &mut Vec<u8, B>,
     before: &[u8; 32],

@@ -117,7 +117,7 @@ fn longest_block<A: Allocator>(entries: &[Entry<A>]) -> usize
     longest
 }
 
-/// Writes a block by way of the buffer, which has room for it, and answers its digest.
+/// Writes a block by way of the buffer, which has room for it, and returns its digest.
 fn write_out_block<W: Write, A: Allocator, B: Allocator>(
     writer: &mut W,
     buffer: &mut Vec<u8, B>,

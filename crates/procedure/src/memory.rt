@@ -1,4 +1,4 @@
-//! The refusal that a call answers where it found no memory.
+//! The refusal that a call returns where it found no memory.
 
 ghost use Rattle.std.specs.Prelude.{Some, codes};
 

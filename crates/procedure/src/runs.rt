@@ -70,7 +70,7 @@ fn found_alone<'a, A: Allocator>(
     }
 }
 
-/// Executes the instruction of this need, and answers the change that it makes.
+/// Executes the instruction of this need, and returns the change that it makes.
 fn fed_alone<A: Allocator + Clone>(
     machine: &mut Machine<A>,
     changes: &Changes<A>,
@@ -106,7 +106,7 @@ fn note<A: Allocator + Clone>(
     Ok(())
 }
 
-/// Executes one instruction, or answers the outcome of a call that has ended.
+/// Executes one instruction, or returns the outcome of a call that has ended.
 #[tactic(auto, unfolding(crate::specs::Runs::advanced_alone, crate::specs::Runs::changes_alone))]
 fn step_alone<A: Allocator + Clone>(
     machine: &mut Machine<A>,
@@ -127,7 +127,7 @@ fn step_alone<A: Allocator + Clone>(
     Ok(None)
 }
 
-/// Executes a machine to its end, and answers the outcome.
+/// Executes a machine to its end, and returns the outcome.
 fn run_machine<A: Allocator + Clone>(
     machine: &mut Machine<A>,
     changes: &mut Changes<A>,

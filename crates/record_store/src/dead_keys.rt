@@ -121,7 +121,7 @@ fn lengthen<A: Allocator>(
     Ok(())
 }
 
-/// Moves the places of slots from behind node `from` to behind node `to`, where there are at least
+/// Moves the places of slots from after node `from` to after node `to`, where there are at least
 /// twice as many.
 fn move_places(nodes: &mut [Option<Candidate>], from: usize, to: usize)
     requires apart { from + from ≤ to }

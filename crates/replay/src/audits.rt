@@ -97,7 +97,7 @@ fn audit_records<A: Allocator + Clone>(
     })
 }
 
-/// What an audit answers to an opening and a log.
+/// What an audit returns for an opening and a log.
 fn audit_log<A: Allocator + Clone>(
     alloc: A,
     catalog: &Catalog<A>,

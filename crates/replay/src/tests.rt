@@ -78,7 +78,7 @@ enum Line {
 
 use Line::{Call as Calls, Token};
 
-/// Records over an opening, how many bytes are cut off behind them, the image from which they are
+/// Records over an opening, how many bytes are cut off after them, the image from which they are
 /// recovered, and what is answered: calls run, whether torn, and what `a` holds; and by an audit of
 /// that image: records, calls, whether torn.
 #[derive(Clone, Copy)]
@@ -198,7 +198,7 @@ const ROWS: [Row<'static>; 17] = [
         audited: Err(AuditError::WrongOpening),
         ..TWO_ROW
     },
-    // Number 0, and a place behind the log's first record.
+    // Number 0, and a place after the log's first record.
     Row {
         image: (0, 1, None),
         recovered: Err(RecoverError::WrongOpening),
@@ -449,7 +449,7 @@ fn refused_before(rt: HostRuntime) -> Result<(), Fail> {
     Ok(())
 }
 
-/// Over an opening in which `a` holds 1: a call before the cut of a partial checkpoint, and one behind it.
+/// Over an opening in which `a` holds 1: a call before the cut of a partial checkpoint, and one after it.
 const CUT: [Line; 6] = [
     Calls(1, SET, Some(2), None),
     Token(Phase::Prepare, 1),

@@ -84,7 +84,7 @@ fn restart_all<A: Allocator>(calls: &mut Vec<Option<OpenCall<A>>, A>)
 }
 
 impl<A: Allocator> Core<A> {
-    /// Whether a checkpoint may begin, want of memory apart.
+    /// Whether a checkpoint may begin, out of memory apart.
     fn may_start(&self) -> Result<(), StartError>
         ensures ok { OnOk result (start_refusal self.now ≡ None) }
         ensures few { OnOk result (length self.now.log ≤ LOG_RECORDS) }
@@ -132,7 +132,7 @@ impl<A: Allocator> Core<A> {
         }
     }
 
-    /// Whether the phase may change, want of memory apart.
+    /// Whether the phase may change, out of memory apart.
     fn may_advance(&self) -> Result<(), AdvanceError>
         ensures ok { OnOk result (advance_refusal self.now ≡ None) }
         ensures err { IfErr result (λ e. advance_refusal self.now ≡ Some e) }
@@ -181,7 +181,7 @@ impl<A: Allocator> Core<A> {
         Ok(())
     }
 
-    /// Whether the checkpoint may be given up, want of memory apart.
+    /// Whether the checkpoint may be given up, out of memory apart.
     fn may_abandon(&self) -> Result<(), AbandonError>
         ensures ok { OnOk result (abandon_refusal self.now ≡ None) }
         ensures err { IfErr result (λ e. abandon_refusal self.now ≡ Some e) }
@@ -252,7 +252,7 @@ impl<A: Allocator + Clone> Core<A> {
         }
     }
 
-    /// Enters the phase that follows, and answers it: into resolve the checkpoint's cut is made, into
+    /// Enters the phase that follows, and returns it: into resolve the checkpoint's cut is made, into
     /// capture its scan begins, into complete its image is finished, and into rest it ends. The log
     /// gets a token that says so.
     ///

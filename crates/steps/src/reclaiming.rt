@@ -142,7 +142,7 @@ fn next_to_go<A: Allocator>(
 }
 
 impl<A: Allocator> Core<A> {
-    /// Reclaims a dead record, and answers its key; its slot is vacant from then on. At rest it is that of
+    /// Reclaims a dead record, and returns its key; its slot is vacant from then on. At rest it is that of
     /// the least key that has a record, is absent from the table, has been touched by no open call, and
     /// was written by no call since the cut of the last finished checkpoint. Where there is none, and in
     /// another phase, the answer is None. It takes no memory.

@@ -17,7 +17,7 @@ use procedure::streams::{WriteFault, write_out};
 use std::alloc::Allocator;
 use std::io::Write;
 
-/// A reason's name, behind what is there.
+/// A reason's name, after what is there.
 fn push_reason<A: Allocator + Clone>(line: &mut Vec<u8, A>, reason: Reason) -> Result<(), NoMemory>
     ensures { OnOk result (line.new.items ≡ line.old.items ++ reason_text reason) }
 {
@@ -26,7 +26,7 @@ fn push_reason<A: Allocator + Clone>(line: &mut Vec<u8, A>, reason: Reason) -> R
     push_text(line, name.as_str().as_bytes())
 }
 
-/// The one line of a fault, behind what is there; nothing where it has none.
+/// The one line of a fault, after what is there; nothing where it has none.
 fn push_fault<A: Allocator + Clone>(line: &mut Vec<u8, A>, fault: &Fault) -> Result<(), NoMemory>
     ensures { OnOk result (line.new.items ≡ line.old.items ++ fault_text fault.now) }
 {
@@ -57,7 +57,7 @@ fn say<W: Write>(writer: &mut W, line: &[u8], fault: Fault) -> Fault
     }
 }
 
-/// Says that memory is wanting, which takes none.
+/// Says that there is no memory, which takes none.
 pub(crate) fn say_no_memory<W: Write>(writer: &mut W) -> Fault
     ensures { IsSaid no_memory (W.contents writer.old) (W.contents writer.new) result }
 {
@@ -68,7 +68,7 @@ pub(crate) fn say_no_memory<W: Write>(writer: &mut W) -> Fault
     )
 }
 
-/// Writes the one line of a fault, which is the answer unless that fails. Want of memory for it is the
+/// Writes the one line of a fault, which is the answer unless that fails. Out of memory for it is the
 /// answer too, and isn't said.
 pub(crate) fn write_fault<W: Write, A: Allocator + Clone>(
     alloc: A,

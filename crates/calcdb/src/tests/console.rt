@@ -1,12 +1,12 @@
 //! Rows of command lines and of files, and how a row is run. A line of a row is one of these, with what
-//! is wanted behind `=`, as the rows of `rows.rt` have it:
+//! is wanted after `=`, as the rows of `rows.rt` have it:
 //!
-//! - `calcdb WORDS = STATUS`: the program, and below what it writes, behind `out` and `err`;
+//! - `calcdb WORDS = STATUS`: the program, and below what it writes, after `out` and `err`;
 //! - `starved calcdb WORDS = STATUS`: the same, with every growth refused;
 //! - `scarce calcdb WORDS = COUNT`: with each growth refused in turn it says so, at least so often, or
 //!   does as ever;
 //! - `cramped calcdb WORDS = FILES`: the same where all answers are written; of the files, a line each with
-//!   their sizes, the first ones are whole then, and there is none behind the next one;
+//!   their sizes, the first ones are whole then, and there is none after the next one;
 //! - `bytewise calcdb WORDS = COUNT`: so many bytes are written, a byte a call, and each call in turn fails;
 //! - `unwritten calcdb WORDS = -`: it ends where standard output takes no write, or can't be flushed;
 //! - `misused calcdb WORDS = -`: they ask for nothing;
@@ -34,7 +34,7 @@ fn output(alloc: Global, most: usize, calls: usize) -> Sink {
     out
 }
 
-/// Lines, each behind the name of the output that they stand on.
+/// Lines, each after the name of the output that they stand on.
 fn push_lines(text: &mut Vec<u8>, name: &[u8], lines: &[u8]) -> Result<(), Fail> {
     for line in lines.split_inclusive(|byte| *byte == b'\n') {
         text.extend_from_slice(name)?;
@@ -51,18 +51,18 @@ fn transcript(alloc: Global, status: u8, out: &[u8], err: &[u8]) -> Result<Vec<u
     Ok(text)
 }
 
-/// What a transcript has behind its status of one digit.
+/// What a transcript has after its status of one digit.
 fn behind_status(transcript: &[u8]) -> &[u8] {
     &transcript[transcript.len().min(2)..]
 }
 
-/// What is said on standard error where memory is wanting.
+/// What is said on standard error where there is no memory.
 const NO_MEMORY: &[u8] = b"err calcdb: no memory\n";
 
-/// Lines of want of memory, each at the end of what a command comes to.
+/// Lines that say out of memory, each at the end of what a command comes to.
 const WANTS: [&[u8]; 2] = [b"out refused no memory\n", NO_MEMORY];
 
-/// Whether a command ended for want of memory: then a line says so at its end, and what it wrote before
+/// Whether a command ended out of memory: then a line says so at its end, and what it wrote before
 /// is a beginning of what it writes else. If it didn't, it did as ever: a vector that is refused much asks
 /// for less.
 fn wanted_memory(rt: &impl Abort, line: &str, found: &[u8], whole: &[u8]) -> bool {
@@ -111,7 +111,7 @@ where
         transcript(self.rt.alloc(), status, out.kept.as_slice(), err.as_slice())
     }
 
-    /// How often a command ends for want of memory, with each growth refused in turn.
+    /// How often a command ends out of memory, with each growth refused in turn.
     fn count_wants(&self, line: &str) -> Result<u64, Fail> {
         let heap = Fallible::new(self.rt.alloc());
         let whole = self.found_of(&heap, line)?;
@@ -186,7 +186,7 @@ where
         })
     }
 
-    /// How many of the files stand whole: the first ones, of which the next may have a part, and none behind it.
+    /// How many of the files stand whole: the first ones, of which the next may have a part, and none after it.
     fn whole_files(&self, files: &str) -> Result<usize, Fail> {
         let mut whole = 0usize;
         let mut ended = false;
@@ -213,7 +213,7 @@ where
         }
     }
 
-    /// How many files stand whole where a command ended for want of memory after all its answers.
+    /// How many files stand whole where a command ended out of memory after all its answers.
     fn written_before(
         &self,
         found: &[u8],
@@ -283,7 +283,7 @@ where
         Ok(())
     }
 
-    /// A command ends for want of memory so often at least.
+    /// A command ends out of memory so often at least.
     fn check_scarce(&self, line: &str, wanted: &str) -> Result<(), Fail> {
         let count = self.count_wants(line)?;
         check_that(self.rt, line, count >= number_of(wanted.trim_end())?);
@@ -356,7 +356,7 @@ where
     }
 }
 
-/// Runs the rows of a text, each in files of its own, and answers how many there are.
+/// Runs the rows of a text, each in files of its own, and returns how many there are.
 pub(crate) fn check_rows<R: Files + Abort + AllocGlobal>(rt: &R, text: &str) -> Result<usize, Fail>
 where
     R::File: Drop,

@@ -110,7 +110,7 @@ fn refused_begins(rt: HostRuntime) -> Result<(), Fail> {
     check_begins(&rt, rt.alloc(), &mut core)
 }
 
-/// Commands, and what the key `q` has then: no record, or its live version, its stable version behind
+/// Commands, and what the key `q` has then: no record, or its live version, its stable version after
 /// `was`, and whether it is available.
 const HELD: &str = "\
 # versions

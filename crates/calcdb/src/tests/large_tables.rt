@@ -64,7 +64,7 @@ fn full_table(rt: HostRuntime) -> Result<(), Fail> {
     check_driven(&rt, &row)
 }
 
-/// A procedure of 64 reads behind the worked ones, and these commands.
+/// A procedure of 64 reads after the worked ones, and these commands.
 fn script_of_reads(alloc: Global, commands: &str) -> Result<String<Global>, Fail> {
     let reads = "read r0 $0\n".repeat(alloc, 64)?;
     Ok(format!(in alloc; "{PROCEDURES}proc many 1\n{reads}end\n{commands}")?)

@@ -1,4 +1,4 @@
-//! Files for rows of the program: texts, images, and files that are made of others. Behind `=` stands
+//! Files for rows of the program: texts, images, and files that are made of others. After `=` stands
 //! what they are made of.
 
 use crate::tests::fixtures::log_of as encoded;
@@ -45,7 +45,7 @@ fn header_of(text: &str) -> Result<(Kind, u64, u64, u64), Fail> {
     Ok((kind, number, base, place))
 }
 
-/// The image of a text: its header as the program prints it up to the place, and its entries behind `:`.
+/// The image of a text: its header as the program prints it up to the place, and its entries after `:`.
 fn image_of(alloc: Global, text: &str) -> Result<Image<Global>, Fail> {
     let (header, words) = text.split_once(':').ok_or("no entries")?;
     let (kind, number, base, place) = header_of(header)?;
@@ -99,7 +99,7 @@ fn cut(mut bytes: Vec<u8>, len: u64) -> Vec<u8> {
     bytes
 }
 
-/// The bytes, and line feeds behind them.
+/// The bytes, and line feeds after them.
 fn padded(mut bytes: Vec<u8>, len: u64) -> Result<Vec<u8>, Fail> {
     bytes.resize(len as usize, b'\n')?;
     Ok(bytes)
@@ -146,7 +146,7 @@ where
 }
 
 /// Makes a file: `write` of the text, `image` of what the text says, `older` of the same in version 1 as
-/// another file has; else of what it has already: a byte turned, its first so many bytes, line feeds behind
+/// another file has; else of what it has already: a byte turned, its first so many bytes, line feeds after
 /// them, or its records under the header of another log.
 pub(crate) fn make_file<R: Files + AllocGlobal>(
     rt: &R,

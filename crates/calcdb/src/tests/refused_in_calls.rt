@@ -31,7 +31,7 @@ fn shown<A: Allocator + Copy>(
     Ok(format!(in global; "{:?} {} {bytes:?}", core.phase(), core.slots())?)
 }
 
-/// Carries out a command where a growth is refused (0: none), and prints its lines. It answers whether
+/// Carries out a command where a growth is refused (0: none), and prints its lines. It returns whether
 /// that growth was asked for.
 fn carried<A: Allocator + Clone>(
     heap: &Fallible<Global>,
@@ -130,7 +130,7 @@ struct Front<'a> {
     lines: &'a [Line<'a>],
 }
 
-/// Runs commands of which the last has a growth refused, and is then carried out again. It answers
+/// Runs commands of which the last has a growth refused, and is then carried out again. It returns
 /// whether that growth was asked for, and whether then the core stayed as it was, and the lines are these.
 fn run_front(
     global: Global,
@@ -173,7 +173,7 @@ fn takes_none(lines: &[Line<'_>]) -> bool {
     }
 }
 
-/// Each command of a row is tried, as the last one of a beginning of the row. It answers how many
+/// Each command of a row is tried, as the last one of a beginning of the row. It returns how many
 /// growths they ask for.
 fn count_all<R: Abort + AllocGlobal>(
     rt: &R,

@@ -52,7 +52,7 @@ fn is_refused(
 }
 
 /// Runs a row where one growth is refused: whether it was asked for, and whether then the run ended for want
-/// of memory behind a beginning of its answers, or one command was refused.
+/// of memory after a beginning of its answers, or one command was refused.
 fn run_refused(
     rt: &impl Abort,
     heap: &Fallible<Global>,

@@ -28,7 +28,7 @@ pub(crate) struct Row<'a> {
     pub(crate) lines: Vec<Line<'a>, Global>,
 }
 
-/// Lines behind what is there. Each `|` is a line feed.
+/// Lines after what is there. Each `|` is a line feed.
 fn push_lines(text: &mut String<Global>, lines: &str) -> Result<(), Fail> {
     for line in lines.split('|') {
         text.push_str(line)?;
@@ -60,7 +60,7 @@ fn with_line<'a>(alloc: Global, mut row: Row<'a>, line: &'a str) -> Result<Row<'
     Ok(row)
 }
 
-/// What stands before and behind `=` in a line.
+/// What stands before and after `=` in a line.
 pub(crate) fn sides_of(line: &str) -> Result<(&str, &str), Fail> {
     Ok(line.split_once(" = ").ok_or("no row")?)
 }
@@ -75,9 +75,9 @@ pub(crate) fn check_named(rt: &impl Abort, name: &str, found: &[u8], wanted: &st
     assert_eq!(rt; found, wanted.as_bytes(), "{name}");
 }
 
-/// The rows of a text. A row begins with its name behind `#`. What stands behind `:` are pairs of its
-/// opening, and a line behind `;` is skipped. The others have commands between ` / `, each with what it
-/// writes behind `=`; there `|` stands for a line feed, and further lines may stand below.
+/// The rows of a text. A row begins with its name after `#`. What stands after `:` are pairs of its
+/// opening, and a line after `;` is skipped. The others have commands between ` / `, each with what it
+/// writes after `=`; there `|` stands for a line feed, and further lines may stand below.
 pub(crate) fn rows_of(alloc: Global, text: &str) -> Result<Vec<Row<'_>, Global>, Fail> {
     let mut rows = Vec::new(alloc);
     for line in text.lines() {

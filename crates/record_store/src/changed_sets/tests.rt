@@ -33,7 +33,7 @@ fn rejoin(changed: &mut Changed<Global>) -> Result<(), Fail> {
 }
 
 /// Keys join and are frozen: how many are frozen, at how many places the one that is wanted stands, and
-/// whether there is none behind them.
+/// whether there is none after them.
 fn frozen_as(
     changed: &mut Changed<Global>,
     joined: &[&[u8]],
@@ -82,7 +82,7 @@ fn seen(changed: &Changed<Global>) -> Result<[[bool; 3]; 2], Fail> {
 }
 
 /// What two checkpoints show, the second begun while the first runs: before them, in the first, once two keys
-/// were written beside it, and behind it.
+/// were written beside it, and after it.
 fn shown_by_two(changed: &mut Changed<Global>) -> Result<[[[bool; 3]; 2]; 4], Fail> {
     let before = seen(changed)?;
     join(changed, b"b")?;
