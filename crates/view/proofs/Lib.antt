@@ -1,0 +1,4 @@
+pub mod Beginnings
+pub mod Lookups
+pub mod Steps
+pub mod Showing

@@ -1,0 +1,5 @@
+pub mod Histories
+pub mod Rows
+pub mod Shown
+pub mod Texts
+pub mod Views
