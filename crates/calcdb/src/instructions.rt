@@ -277,7 +277,7 @@ fn abort_line<A: Allocator + Clone>(
     Ok(Instr::AbortIf(test_line(alloc, arity, rest)?, code))
 }
 
-/// The instruction that a line is, in a procedure of so many arguments.
+/// The instruction that a line is, in a procedure of this arity.
 pub(crate) fn instruction_of<A: Allocator + Clone>(
     alloc: A,
     arity: u8,

@@ -44,7 +44,7 @@ fn end_call<A: Allocator + Clone>(core: &mut Core<A>, session: u16) -> Reply<A>
     }
 }
 
-/// Steps of a session's call until it is ready, so many at most, and its end; it is given up where a
+/// Steps of a session's call until it is ready, at most `count`, and its end; it is given up where a
 /// step is refused.
 fn go_on<A: Allocator + Clone>(core: &mut Core<A>, session: u16, count: usize) -> Reply<A>
     ensures { Carried {A = A} (GoesOn count session) core.old core.new (reply_text result) (image_in result) }

@@ -8,6 +8,7 @@ mod embedding;
 mod examples;
 mod failing_devices;
 mod fixtures;
+mod full_log;
 mod growths;
 mod growths_of_checkpoints;
 mod large_tables;

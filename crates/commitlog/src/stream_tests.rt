@@ -12,7 +12,7 @@ const HEADER: LogHeader = LogHeader {
     opening: [0x22; 32],
 };
 
-/// Keeps what is written, at most so many bytes a call, and fails once its calls are used up.
+/// Keeps what is written, at most `most` bytes a call, and fails once its calls are used up.
 #[derive(Debug, Drop)]
 struct Sink {
     kept: Vec<u8, Global>,
@@ -36,7 +36,7 @@ impl Write for Sink {
     }
 }
 
-/// Gives its bytes, at most so many a call, and fails once its calls are used up.
+/// Gives its bytes, at most `most` a call, and fails once its calls are used up.
 #[derive(Debug, Drop)]
 struct Source {
     left: Vec<u8, Global>,
@@ -73,7 +73,7 @@ fn encoded(alloc: Global) -> Result<Sequence<u8, Global>, Fail> {
     Ok(encode(alloc, &HEADER, &records)?)
 }
 
-/// What a writer with so many calls keeps, and what is answered.
+/// What a writer that takes `calls` calls keeps, and what is returned.
 fn sent(
     alloc: Global,
     most: usize,
@@ -133,7 +133,7 @@ fn write_of_no_byte(rt: HostRuntime) -> Result<(), Fail> {
     Ok(())
 }
 
-/// How many records are read of a log that comes in pieces, by a reader with so many calls.
+/// How many records are read of a log that comes in pieces, from a reader that takes `calls` calls.
 fn received(alloc: Global, most: usize, calls: usize) -> Result<Result<usize, ReadError>, Fail> {
     let whole = encoded(alloc)?;
     let mut source = Source {

@@ -244,7 +244,7 @@ fn stated_count(rt: HostRuntime) -> Result<(), Fail> {
     Ok(())
 }
 
-/// A full image of one value of so many bytes.
+/// A full image of one value of the given length.
 pub(crate) fn valued(alloc: Global, length: usize) -> Result<Image<Global>, Fail> {
     let mut bytes = Vec::new(alloc);
     bytes.resize(length, 7)?;

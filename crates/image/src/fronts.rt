@@ -93,7 +93,7 @@ pub(crate) fn entries_at<'a, A: Allocator>(
     Ok(Some(rest))
 }
 
-/// A block of so many entries, put after those found before, and what stands after it; None where it
+/// A block of `count` entries, put after those found before, and what follows it; None where it
 /// isn't wholly there, or a tag is neither 0 nor 1, or the digest is another. The digest before the
 /// block becomes the block's.
 #[tactic(auto, unfolding(crate::specs::Fronts::block_at))]

@@ -73,7 +73,7 @@ impl From<NoMemory> for MergeError {
     }
 }
 
-/// Whether the images are partial, and each stands on the one before it.
+/// Whether the images are partial, and each is based on the one before it.
 fn check_links<A: Allocator>(number: u64, partials: &[Image<A>]) -> Result<(), MergeError>
     ensures { result_err result ≡ links_refusal 0 number partials.now }
 {

@@ -8,7 +8,7 @@ use std::alloc::Global;
 use std::io::{Error, ErrorKind, Read, Result as IoResult, Write};
 use std::test::Fail;
 
-/// Keeps what is written, at most so many bytes a call, and fails once its calls are used up.
+/// Keeps what is written, at most `most` bytes a call, and fails once its calls are used up.
 #[derive(Debug, Drop)]
 struct Sink {
     kept: Vec<u8, Global>,
@@ -32,7 +32,7 @@ impl Write for Sink {
     }
 }
 
-/// Gives its bytes, at most so many a call, and fails once its calls are used up.
+/// Gives its bytes, at most `most` a call, and fails once its calls are used up.
 #[derive(Debug, Drop)]
 struct Source<'a> {
     left: &'a [u8],
@@ -54,7 +54,7 @@ impl<'a> Read for Source<'a> {
     }
 }
 
-/// What a writer with so many calls keeps of an image, and what is answered.
+/// What a writer that takes `calls` calls keeps of an image, and what is returned.
 fn sent(
     alloc: Global,
     image: &Image<Global>,
@@ -136,7 +136,7 @@ fn write_of_no_byte(rt: HostRuntime) -> Result<(), Fail> {
     Ok(())
 }
 
-/// The image of bytes that come in pieces, from a reader with so many calls.
+/// The image of bytes that come in pieces, from a reader that takes `calls` calls.
 fn received(
     alloc: Global,
     bytes: &[u8],

@@ -229,10 +229,10 @@ fn refused_catalogs(rt: HostRuntime) -> Result<(), Fail> {
     Ok(())
 }
 
-/// Lengths in bytes, and whether a key may have so many.
+/// Lengths in bytes, and whether a key may be of that length.
 const KEY_LENGTHS: [(usize, bool); 4] = [(0, false), (1, true), (32, true), (33, false)];
 
-/// Lengths in bytes, and whether a value may have so many.
+/// Lengths in bytes, and whether a value may be of that length.
 const VALUE_LENGTHS: [(usize, bool); 3] = [
     (0, true),
     (VALUE_BYTES, true),

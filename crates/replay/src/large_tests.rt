@@ -19,7 +19,7 @@ fn entry(alloc: Global, number: u32, len: usize) -> Result<Entry<Global>, Fail> 
     })
 }
 
-/// An opening of so many keys, each with a value of so many bytes.
+/// An opening of `keys` keys, each with a value of `len` bytes.
 fn opening(alloc: Global, keys: u32, len: usize) -> Result<Image<Global>, Fail> {
     let mut entries = Vec::new(alloc);
     for number in 0..keys {
@@ -97,7 +97,7 @@ fn log_of_calls(
 /// Calls over a full table: another value for a key that it has, an insert of that, and a key more.
 const CALLS: [(u64, u16, u32, u8); 3] = [(1, SET, 5, 0), (2, NEW, 5, 1), (3, NEW, FULL, 0)];
 
-/// What is refused of the first so many of them.
+/// What is refused of the first `calls` of them.
 fn full_table_refusals(
     alloc: Global,
     catalog: &Catalog<Global>,
@@ -123,7 +123,7 @@ fn full_table(rt: HostRuntime) -> Result<(), Fail> {
     Ok(())
 }
 
-/// What is refused of empty logs over an opening of a value of so many bytes: in version 2, and in 1.
+/// What is refused of empty logs over an opening of a value of `len` bytes: in version 2, and in 1.
 fn refusals_of_value(
     alloc: Global,
     len: usize,

@@ -37,7 +37,7 @@ fn count_notes<A: Allocator>(calls: &[Option<OpenCall<A>>], session: usize) -> u
     }
 }
 
-/// Room for one record more in the log, and for so many keys more among the collected ones.
+/// Room for one record more in the log, and for `more` further keys among the collected ones.
 fn make_room<A: Allocator>(
     changed: &mut Changed<A>,
     log: &mut Log<A>,

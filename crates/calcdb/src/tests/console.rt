@@ -27,7 +27,7 @@ use std::process::Abort;
 use std::rt::Files;
 use std::test::Fail;
 
-/// A standard output that takes so many bytes a call, and so many calls.
+/// A standard output that takes at most `most` bytes a call, and `calls` calls.
 fn output(alloc: Global, most: usize, calls: usize) -> Sink {
     let mut out = Sink::new(alloc, most, calls);
     out.fault = ErrorKind::Other;
@@ -78,7 +78,7 @@ fn wanted_memory(rt: &impl Abort, line: &str, found: &[u8], whole: &[u8]) -> boo
     false
 }
 
-/// What stands on standard error where standard output fails.
+/// What standard error has where standard output fails.
 const UNWRITTEN: &[u8] = b"calcdb: cannot write output\n";
 
 /// Where rows are run.
@@ -137,7 +137,7 @@ where
         Ok(status == 1 && err.as_slice() == UNWRITTEN)
     }
 
-    /// What stands on an output that fails, or doesn't.
+    /// What is written to an output that fails, or doesn't.
     fn written_by(
         &self,
         line: &str,
@@ -194,7 +194,7 @@ where
             let (name, size) = line.split_once(' ').ok_or("no size")?;
             let found = self.size_of(name)?;
             if ended && found.as_str() != "none\n" {
-                return Err("a file stands behind one that isn't whole".into());
+                return Err("a file stands after one that isn't whole".into());
             }
             if found.as_str().trim_end() == size {
                 whole = whole.saturating_add(1);
@@ -283,7 +283,7 @@ where
         Ok(())
     }
 
-    /// A command ends out of memory so often at least.
+    /// A command ends out of memory at least as often as wanted.
     fn check_scarce(&self, line: &str, wanted: &str) -> Result<(), Fail> {
         let count = self.count_wants(line)?;
         check_that(self.rt, line, count >= number_of(wanted.trim_end())?);

@@ -11,7 +11,7 @@ fn failure(failures: &mut usize, kind: ErrorKind) -> Error {
     Error::from(kind)
 }
 
-/// Keeps what is written, at most so many bytes a call, and fails after so many calls. A call that takes
+/// Keeps what is written, at most `most` bytes a call, and fails after `calls` calls. A call that takes
 /// no byte of some is a failure too.
 #[derive(Drop)]
 pub(crate) struct Sink {
@@ -60,7 +60,7 @@ impl Write for Sink {
     }
 }
 
-/// Gives its bytes, at most so many a call, and fails after so many calls.
+/// Gives its bytes, at most `most` a call, and fails after `calls` calls.
 #[derive(Drop)]
 pub(crate) struct Source<'a> {
     left: &'a [u8],

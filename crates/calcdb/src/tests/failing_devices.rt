@@ -24,7 +24,7 @@ fn rows(alloc: Global) -> Result<Vec<Row<'static>, Global>, Fail> {
     Ok(rows)
 }
 
-/// The devices of a run: so many bytes a call, and so many calls, of a reader and of a writer.
+/// The devices of a run: the bytes of a call, and the calls, of a reader and of a writer.
 #[derive(Clone, Copy)]
 struct Devices {
     read: (usize, usize),
@@ -59,7 +59,7 @@ fn count_written(
     Ok((written.len(), ended))
 }
 
-/// A writer that takes so many bytes a call, and fails at each call in turn, until there are enough.
+/// A writer that takes at most `most` bytes a call, and fails at each call in turn, until there are enough.
 fn check_writer(
     rt: &impl Abort,
     alloc: Global,
@@ -118,7 +118,7 @@ fn idle_writer(rt: HostRuntime) -> Result<(), Fail> {
     Ok(())
 }
 
-/// Whether a load of a text from a reader of so many calls fails, since that does, and writes nothing.
+/// Whether a load of a text from a reader that takes `calls` calls fails, since that does, and writes nothing.
 fn is_unread(rt: &impl Abort, alloc: Global, text: &str, calls: usize) -> bool {
     let mut source = Source::new(text.as_bytes(), 1, calls);
     let mut sink = Sink::new(alloc, PLENTY, PLENTY);

@@ -47,7 +47,7 @@ begin 0 3 swap 'zz #1 = ok / step 0 = ran / step 0 = refused table full / begin 
 step 1 = refused conflict / giveup 0 = ok / step 1 = ready / finish 1 = place 3 aborted 2
 ";
 
-/// Pairs of so many keys of 4 bytes, which are numbers from 0 on.
+/// Pairs of `count` keys of 4 bytes, which are numbers from 0 on.
 fn numbers(alloc: Global, count: u32) -> Result<String<Global>, Fail> {
     let mut pairs = String::new(alloc);
     for key in 0..count {
@@ -140,7 +140,7 @@ fn swapped(
     Some(core.finish(session).ok()?.place)
 }
 
-/// How many of so many calls are answered at the places from 0 on, of all sessions in turn and over
+/// How many of these calls are answered at the places from 0 on, of all sessions in turn and over
 /// 100,000 keys.
 fn count_answered(core: &mut Core<Global>, alloc: Global, calls: u32) -> u32 {
     let mut count = 0u32;

@@ -93,7 +93,7 @@ fn under(alloc: Global, other: &[u8], bytes: &[u8]) -> Result<Vec<u8>, Fail> {
     Ok(encoded(alloc, &header, log.records.as_slice())?.into_vec())
 }
 
-/// The first so many bytes.
+/// The first `len` bytes.
 fn cut(mut bytes: Vec<u8>, len: u64) -> Vec<u8> {
     bytes.truncate(len as usize);
     bytes
@@ -146,7 +146,7 @@ where
 }
 
 /// Makes a file: `write` of the text, `image` of what the text says, `older` of the same in version 1 as
-/// another file has; else of what it has already: a byte turned, its first so many bytes, line feeds after
+/// another file has; else of what it has already: a byte turned, its first bytes alone, line feeds after
 /// them, or its records under the header of another log.
 pub(crate) fn make_file<R: Files + AllocGlobal>(
     rt: &R,

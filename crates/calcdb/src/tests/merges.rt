@@ -38,7 +38,7 @@ size unmade = none / calcdb merge . alone = 1|out image full 1 base 1 place 1 co
 calcdb merge absent/merged alone = 1|out image full 1 base 1 place 1 count 1|err calcdb: cannot write absent/merged / remove there = - / remove alone = -
 ";
 
-/// Chains of 64 images and of 65: the first is full, and each other one stands on the one before it.
+/// Chains of 64 images and of 65: the first is full, and each other one is based on the one before it.
 const LONG_MERGES: &str = "\
 # too many
 calcdb merge merged 1 2 3 4 5 6 7 8 9 10 11 12 13 14 15 16 17 18 19 20 21 22 23 24 25 26 27 28 29 30 31 32 33 34 35 36 37 38 39 40 41 42 43 44 45 46 47 48 49 50 51 52 53 54 55 56 57 58 59 60 61 62 63 64 = 0

@@ -272,7 +272,7 @@ fn texts(rt: HostRuntime) -> Result<(), Fail> {
     Ok(())
 }
 
-/// A script of so many procedures, the first of so many instructions with a literal of so many bytes.
+/// A script of procedures, the first of several instructions with a literal, by their numbers and its length.
 fn script_of_sizes(
     alloc: Global,
     (instructions, literal, procedures): (usize, usize, usize),
