@@ -20,6 +20,7 @@ mod refused_in_calls;
 mod refused_in_images;
 mod refused_in_rings;
 mod refused_in_runs;
+mod refused_in_views;
 mod rows;
 mod runs;
 mod schedules;
