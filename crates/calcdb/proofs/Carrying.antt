@@ -1,11 +1,11 @@
 -- Events carried out one after another.
-use Rattle.std.proofs.Common.{◌≡◌, inl, inr, ℕ, suc, List, [], ◌∷◌, Result, Ok, Err, refl, sym, ap, subst, slice_get}
+use Rattle.std.proofs.Common.{◌≡◌, inl, inr, ℕ, suc, List, [], ◌∷◌, Result, Ok, Err, refl, sym, ap, subst, slice_get, Option, Some, None, option_to_list}
 use Rattle.std.proofs.lemmas.List.{append-nil}
 use Rattle.image.specs.Images.{Image}
 use Rattle.procedure.specs.Bytes.{Bytes}
 use Rattle.procedure.specs.Procedures.{Procedure}
 use Rattle.steps.specs.CoreViews.{CoreView}
-use Rattle.steps.specs.Schedules.{FinishesAs, GivesUpAs, Handles, StepsAs, image_in}
+use Rattle.steps.specs.Schedules.{FinishesAs, GivesUpAs, Handles, StepsAs, image_in, without_image}
 use Rattle.steps.specs.declared.errors.BeginError.{BeginError}
 use Rattle.steps.specs.declared.errors.FinishError.{FinishError}
 use Rattle.steps.specs.declared.errors.NotActive.{NotActive}
@@ -13,11 +13,12 @@ use Rattle.steps.specs.declared.errors.StepError.{StepError}
 use Rattle.steps.specs.declared.finish.Answer.{Answer}
 use Rattle.steps.specs.declared.schedules.Event.{Event}
 use Rattle.steps.specs.declared.schedules.Event.TheVariants as event
-use Rattle.steps.specs.declared.schedules.Reply.{Reply}
+use Rattle.steps.specs.declared.schedules.Handled.{Handled}
 use Rattle.steps.specs.declared.schedules.Reply.TheVariants as reply
 use Rattle.steps.specs.declared.step.Stepped.{Stepped}
 use Rattle.steps.specs.declared.step.Stepped.TheVariants.{Ran, Ready}
-use Rattle.calcdb.specs.Runs.{Begins, Calls, Carried, Carries, Ends, GoesOn, Says, count_of, reply_text}
+use Rattle.calcdb.specs.Output.{image_text}
+use Rattle.calcdb.specs.Runs.{Begins, Calls, Carried, Carries, Ends, GoesOn, Says, count_of, handled_text, reply_text}
 use Rattle.calcdb.specs.declared.commands.Command.TheVariants as command
 use Rattle.calcdb.specs.declared.commands.NewCall.{NewCall}
 
@@ -26,9 +27,9 @@ module _ {A : Type 0} where
       Carried {A = A} (Ends s) old new (reply_text {A = A} (reply.Finish (Ok a))) []
   ended s old new r a h is = record {
     events = event.Finish s ∷ [];
-    replies = reply.Finish r ∷ [];
+    each = without_image (reply.Finish r) ∷ [];
     handled = (new, (r, refl, h), refl);
-    says = inl (a, refl, ap (λ x. reply.Finish x ∷ []) is, refl);
+    says = inl (a, refl, ap (λ x. without_image (reply.Finish x) ∷ []) is, refl);
     taken = refl;
   }
 
@@ -37,9 +38,9 @@ module _ {A : Type 0} where
       Carried {A = A} (Ends s) old new (reply_text {A = A} (reply.Finish (Err e))) []
   end_refused s old mid new r e g h is up = record {
     events = event.Finish s ∷ event.GiveUp s ∷ [];
-    replies = reply.Finish r ∷ reply.GiveUp g ∷ [];
+    each = without_image (reply.Finish r) ∷ without_image (reply.GiveUp g) ∷ [];
     handled = (mid, (r, refl, h), (new, (g, refl, up), refl));
-    says = inr (e, reply.GiveUp g, refl, ap (λ x. reply.Finish x ∷ reply.GiveUp g ∷ []) is, refl);
+    says = inr (e, without_image (reply.GiveUp g), refl, ap (λ x. without_image (reply.Finish x) ∷ without_image (reply.GiveUp g) ∷ []) is, refl);
     taken = refl;
   }
 
@@ -47,9 +48,9 @@ module _ {A : Type 0} where
       Carried {A = A} (GoesOn n s) mid new text images → Carried {A = A} (GoesOn (suc n) s) old new text images
   ran n s old mid new r text images h is c = record {
     events = event.Step s ∷ c.events;
-    replies = reply.Step r ∷ c.replies;
+    each = without_image (reply.Step r) ∷ c.each;
     handled = (mid, (r, refl, h), c.handled);
-    says = inl (c.events, c.replies, refl, ap (λ x. reply.Step x ∷ c.replies) is, c.says);
+    says = inl (c.events, c.each, refl, ap (λ x. without_image (reply.Step x) ∷ c.each) is, c.says);
     taken = c.taken;
   }
 
@@ -57,9 +58,9 @@ module _ {A : Type 0} where
       Carried {A = A} (Ends s) mid new text images → Carried {A = A} (GoesOn (suc n) s) old new text images
   made_ready n s old mid new r text images h is c = record {
     events = event.Step s ∷ c.events;
-    replies = reply.Step r ∷ c.replies;
+    each = without_image (reply.Step r) ∷ c.each;
     handled = (mid, (r, refl, h), c.handled);
-    says = inr (inl (c.events, c.replies, refl, ap (λ x. reply.Step x ∷ c.replies) is, c.says));
+    says = inr (inl (c.events, c.each, refl, ap (λ x. without_image (reply.Step x) ∷ c.each) is, c.says));
     taken = c.taken;
   }
 
@@ -67,39 +68,48 @@ module _ {A : Type 0} where
       Carried {A = A} (GoesOn (suc n) s) old new (reply_text {A = A} (reply.Step (Err e))) []
   step_refused n s old mid new r e g h is up = record {
     events = event.Step s ∷ event.GiveUp s ∷ [];
-    replies = reply.Step r ∷ reply.GiveUp g ∷ [];
+    each = without_image (reply.Step r) ∷ without_image (reply.GiveUp g) ∷ [];
     handled = (mid, (r, refl, h), (new, (g, refl, up), refl));
-    says = inr (inr (e, reply.GiveUp g, refl, ap (λ x. reply.Step x ∷ reply.GiveUp g ∷ []) is, refl));
+    says = inr (inr (e, without_image (reply.GiveUp g), refl, ap (λ x. without_image (reply.Step x) ∷ without_image (reply.GiveUp g) ∷ []) is, refl));
     taken = refl;
   }
 
   pub call_refused : (catalog : List Procedure) (c : NewCall (List Bytes)) (b : Event A) (old new : CoreView) (r : Result (Unit {0}) BeginError) (e : BeginError) → Begins c b →
-      Handles b old new (reply.Begin r) → r ≡ Err e →
+      Handles b old new (without_image (reply.Begin r)) → r ≡ Err e →
       Carried {A = A} (Calls catalog c) old new (reply_text {A = A} (reply.Begin (Err e))) []
   call_refused catalog c b old new r e begins h is = record {
     events = b ∷ [];
-    replies = reply.Begin r ∷ [];
+    each = without_image (reply.Begin r) ∷ [];
     handled = (new, h, refl);
-    says = inl (e, b, begins, refl, ap (λ x. reply.Begin x ∷ []) is, refl);
+    says = inl (e, b, begins, refl, ap (λ x. without_image (reply.Begin x) ∷ []) is, refl);
     taken = refl;
   }
 
   pub call_begun : (catalog : List Procedure) (c : NewCall (List Bytes)) (b : Event A) (old mid new : CoreView) (r : Result (Unit {0}) BeginError) (count : ℕ) (text : Bytes) (images : List Image) →
-      Begins c b → Handles b old mid (reply.Begin r) → r ≡ Ok tt →
+      Begins c b → Handles b old mid (without_image (reply.Begin r)) → r ≡ Ok tt →
       count ≡ count_of (slice_get catalog c.procedure) → Carried {A = A} (GoesOn count c.session) mid new text images → Carried {A = A} (Calls catalog c) old new text images
   call_begun catalog c b old mid new r count text images begins h is counted on = record {
     events = b ∷ on.events;
-    replies = reply.Begin r ∷ on.replies;
+    each = without_image (reply.Begin r) ∷ on.each;
     handled = (mid, h, on.handled);
-    says = inr (b, on.events, on.replies, begins, refl, ap (λ x. reply.Begin x ∷ on.replies) is, subst (λ n. GoesOn {A = A} n c.session on.events on.replies text) counted on.says);
+    says = inr (b, on.events, on.each, begins, refl, ap (λ x. without_image (reply.Begin x) ∷ on.each) is, subst (λ n. GoesOn {A = A} n c.session on.events on.each text) counted on.says);
     taken = on.taken;
   }
 
   -- one event
-  pub one : (e : Event A) (old new : CoreView) (r : Reply A) → Handles e old new r → Carried {A = A} (Says e) old new (reply_text r) (image_in r)
-  one e old new r h = record { events = e ∷ []; replies = r ∷ []; handled = (new, h, refl); says = (r, refl, refl, refl); taken = sym (append-nil (image_in r)) }
+  pub one : (e : Event A) (old new : CoreView) (r : Handled A) → Handles e old new r → Carried {A = A} (Says e) old new (handled_text r) (image_in r)
+  one e old new r h = record { events = e ∷ []; each = r ∷ []; handled = (new, h, refl); says = (r, refl, refl, refl); taken = sym (append-nil (image_in r)) }
+
+  -- what is printed of it where it took an image, and where it took none
+  pub one_image : (e : Event A) (old new : CoreView) (x : Handled A) (i : Image) → x.image ≡ Some i → Carried {A = A} (Says e) old new (handled_text x) (image_in x) →
+      Carried {A = A} (Says e) old new (image_text i) (i ∷ [])
+  one_image e old new x i is h = subst (λ (o : Option Image). Carried {A = A} (Says e) old new (handled_text {A = A} (record { reply = x.reply; image = o })) (option_to_list o)) is h
+
+  pub one_reply : (e : Event A) (old new : CoreView) (x : Handled A) → x.image ≡ None → Carried {A = A} (Says e) old new (handled_text x) (image_in x) →
+      Carried {A = A} (Says e) old new (reply_text x.reply) []
+  one_reply e old new x is h = subst (λ (o : Option Image). Carried {A = A} (Says e) old new (handled_text {A = A} (record { reply = x.reply; image = o })) (option_to_list o)) is h
 
   -- by which a call begins
   pub one_begin : (catalog : List Procedure) (c : NewCall (List Bytes)) (b : Event A) (old new : CoreView) (text : Bytes) (images : List Image) → Begins c b →
       Carried {A = A} (Says b) old new text images → Carried {A = A} (Carries catalog (command.Begin c)) old new text images
-  one_begin catalog c b old new text images begins h = record { events = h.events; replies = h.replies; handled = h.handled; says = (b, begins, h.says); taken = h.taken }
+  one_begin catalog c b old new text images begins h = record { events = h.events; each = h.each; handled = h.handled; says = (b, begins, h.says); taken = h.taken }

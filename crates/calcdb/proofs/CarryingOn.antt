@@ -26,7 +26,7 @@ use Rattle.steps.specs.declared.errors.StepError.{StepError}
 use Rattle.steps.specs.declared.finish.Answer.{Answer}
 use Rattle.steps.specs.declared.schedules.Event.{Event}
 use Rattle.steps.specs.declared.schedules.Event.TheVariants as event
-use Rattle.steps.specs.declared.schedules.Reply.{Reply}
+use Rattle.steps.specs.declared.schedules.Handled.{Handled}
 use Rattle.steps.specs.declared.step.Stepped.{Stepped}
 use Rattle.calcdb.specs.Runs.{Carried, Carries, CarriesAll, Sent}
 use Rattle.procedure.specs.Streams.{IsBegun}
@@ -88,7 +88,7 @@ module _ {A : Type 0} where
   finish_kept old new s (Ok x) h = finish_open old new s (open_at old s) refl h.finished h.refusal
   finish_kept old new s (Err e) h = ap (λ (v : CoreView). v.catalog) h.refused
 
-  event_kept : (e : Event A) (old new : CoreView) (x : Reply A) → Handles e old new x → new.catalog ≡ old.catalog
+  event_kept : (e : Event A) (old new : CoreView) (x : Handled A) → Handles e old new x → new.catalog ≡ old.catalog
   event_kept (event.Begin s n p args) old new x (r, is, h) = begin_kept old new s n p _ r h
   event_kept (event.Step s) old new x (r, is, h) = step_kept old new s r h
   event_kept (event.Finish s) old new x (r, is, h) = finish_kept old new s r h
@@ -100,7 +100,7 @@ module _ {A : Type 0} where
   event_kept event.Reclaim old new x (key, is, h) = ap (λ (v : CoreView). v.catalog) h.reclaimed.rest
   event_kept event.Abandon old new x (r, is, h) = abandon_kept old new r h
 
-  events_kept : (es : List (Event A)) (old new : CoreView) (rs : List (Reply A)) → HandlesAll es old new rs → new.catalog ≡ old.catalog
+  events_kept : (es : List (Event A)) (old new : CoreView) (rs : List (Handled A)) → HandlesAll es old new rs → new.catalog ≡ old.catalog
   events_kept [] old new [] h = ap (λ (v : CoreView). v.catalog) (sym h)
   events_kept [] old new (r ∷ rs) h = absurd h
   events_kept (e ∷ es) old new [] h = absurd h
@@ -108,13 +108,13 @@ module _ {A : Type 0} where
 
   -- ONE AFTER ANOTHER
 
-  pub handled_on : (es fs : List (Event A)) (old mid new : CoreView) (rs qs : List (Reply A)) → HandlesAll es old mid rs → HandlesAll fs mid new qs → HandlesAll (es ++ fs) old new (rs ++ qs)
+  pub handled_on : (es fs : List (Event A)) (old mid new : CoreView) (rs qs : List (Handled A)) → HandlesAll es old mid rs → HandlesAll fs mid new qs → HandlesAll (es ++ fs) old new (rs ++ qs)
   handled_on [] fs old mid new [] qs h k = subst (λ v. HandlesAll fs v new qs) (sym h) k
   handled_on [] fs old mid new (r ∷ rs) qs h k = absurd h
   handled_on (e ∷ es) fs old mid new [] qs h k = absurd h
   handled_on (e ∷ es) fs old mid new (r ∷ rs) qs (v, h, t) k = (v, h, handled_on es fs v mid new rs qs t k)
 
-  carries_more : (catalog : List Procedure) (cs : List (Command (List Bytes))) (c : Command (List Bytes)) (es fs : List (Event A)) (rs qs : List (Reply A)) (t u : Bytes) →
+  carries_more : (catalog : List Procedure) (cs : List (Command (List Bytes))) (c : Command (List Bytes)) (es fs : List (Event A)) (rs qs : List (Handled A)) (t u : Bytes) →
       CarriesAll catalog cs es rs t → Carries catalog c fs qs u → CarriesAll catalog (cs ++ c ∷ []) (es ++ fs) (rs ++ qs) (t ++ u)
   carries_more catalog [] c es fs rs qs t u (no_events, no_replies, no_text) h = (
     fs,
@@ -124,7 +124,7 @@ module _ {A : Type 0} where
     u,
     [],
     ap (λ (l : List (Event A)). l ++ fs) no_events ∙ sym (append-nil fs),
-    ap (λ (l : List (Reply A)). l ++ qs) no_replies ∙ sym (append-nil qs),
+    ap (λ (l : List (Handled A)). l ++ qs) no_replies ∙ sym (append-nil qs),
     ap (λ (l : Bytes). l ++ u) no_text ∙ sym (append-nil u),
     h,
     (refl, refl, refl),
@@ -137,20 +137,20 @@ module _ {A : Type 0} where
     t1,
     t2 ++ u,
     ap (λ (l : List (Event A)). l ++ fs) is_es ∙ append_assoc es1 es2 fs,
-    ap (λ (l : List (Reply A)). l ++ qs) is_rs ∙ append_assoc rs1 rs2 qs,
+    ap (λ (l : List (Handled A)). l ++ qs) is_rs ∙ append_assoc rs1 rs2 qs,
     ap (λ (l : Bytes). l ++ u) is_t ∙ append_assoc t1 t2 u,
     first,
     carries_more catalog cs c es2 fs rs2 qs t2 u others h,
   )
 
-  pub catalog_kept : (P : List (Event A) → List (Reply A) → Bytes → Type 0) (old new : CoreView) (text : Bytes) (images : List Image) → Carried {A = A} P old new text images →
+  pub catalog_kept : (P : List (Event A) → List (Handled A) → Bytes → Type 0) (old new : CoreView) (text : Bytes) (images : List Image) → Carried {A = A} P old new text images →
       new.catalog ≡ old.catalog
-  catalog_kept P old new text images c = events_kept c.events old new c.replies c.handled
+  catalog_kept P old new text images c = events_kept c.events old new c.each c.handled
 
   pub carried_none : (catalog : List Procedure) (v : CoreView) → Carried {A = A} (CarriesAll catalog []) v v [] []
-  carried_none catalog v = record { events = []; replies = []; handled = refl; says = (refl, refl, refl); taken = refl }
+  carried_none catalog v = record { events = []; each = []; handled = refl; says = (refl, refl, refl); taken = refl }
 
-  images_on : (rs qs : List (Reply A)) → images_in rs ++ images_in qs ≡ images_in (rs ++ qs)
+  images_on : (rs qs : List (Handled A)) → images_in rs ++ images_in qs ≡ images_in (rs ++ qs)
   images_on [] qs = refl
   images_on (r ∷ rs) qs = append_assoc (image_in r) (images_in rs) (images_in qs) ∙ ap (λ (l : List Image). image_in r ++ l) (images_on rs qs)
 
@@ -158,10 +158,10 @@ module _ {A : Type 0} where
       Carried {A = A} (CarriesAll catalog cs) old mid t is → Carried {A = A} (Carries catalog c) mid new u js → Carried {A = A} (CarriesAll catalog (cs ++ c ∷ [])) old new (t ++ u) (is ++ js)
   carried_more catalog cs c old mid new t u is js h k = record {
     events = h.events ++ k.events;
-    replies = h.replies ++ k.replies;
-    handled = handled_on h.events k.events old mid new h.replies k.replies h.handled k.handled;
-    says = carries_more catalog cs c h.events k.events h.replies k.replies t u h.says k.says;
-    taken = rw (h.taken, k.taken) (images_on h.replies k.replies);
+    each = h.each ++ k.each;
+    handled = handled_on h.events k.events old mid new h.each k.each h.handled k.handled;
+    says = carries_more catalog cs c h.events k.events h.each k.each t u h.says k.says;
+    taken = rw (h.taken, k.taken) (images_on h.each k.each);
   }
 
 -- behind what went out whole

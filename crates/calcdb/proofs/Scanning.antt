@@ -3,13 +3,13 @@ use Rattle.std.proofs.Common.{◌≡◌, ◌+◌, ◌-◌, ℕ, zero, suc, List,
 use Rattle.std.specs.Prelude.{codes}
 use Rattle.std.proofs.lemmas.List.{replicate_more}
 use Rattle.steps.specs.CoreViews.{CoreView}
-use Rattle.steps.specs.Schedules.{HandlesAll, VisitsAs, images_in}
+use Rattle.steps.specs.Schedules.{HandlesAll, VisitsAs, images_in, without_image}
 use Rattle.steps.specs.declared.captures.Captured.{Captured}
 use Rattle.steps.specs.declared.captures.Captured.TheVariants.{Slot, Done}
 use Rattle.steps.specs.declared.errors.CaptureError.{CaptureError}
 use Rattle.steps.specs.declared.schedules.Event.{Event}
 use Rattle.steps.specs.declared.schedules.Event.TheVariants as event
-use Rattle.steps.specs.declared.schedules.Reply.{Reply}
+use Rattle.steps.specs.declared.schedules.Handled.{Handled}
 use Rattle.steps.specs.declared.schedules.Reply.TheVariants as reply
 use Rattle.calcdb.specs.Output.{numbered_text}
 use Rattle.calcdb.specs.Runs.{Carried, EndsScan, Scans, reply_text}
@@ -18,8 +18,8 @@ use Rattle.calcdb.proofs.CarryingOn.{handled_on}
 abbrev pub captures : (A : Type 0) → ℕ → List (Event A)
 captures A n = replicate n event.Capture
 
-abbrev pub visits : (A : Type 0) → ℕ → List (Reply A)
-visits A n = replicate n (reply.Capture (Ok Slot))
+abbrev pub visits : (A : Type 0) → ℕ → List (Handled A)
+visits A n = replicate n (without_image (reply.Capture (Ok Slot)))
 
 -- so many places were visited
 pub record Visited (A : Type 0) (first core : CoreView) : Type 0 where
@@ -38,22 +38,22 @@ stays core new (Ok Slot) h is = absurd (cc)
 stays core new (Ok Done) h is = ap (λ (v : CoreView). v.checkpoint.cursor) h.captured.1
 stays core new (Err e) h is = absurd (cc)
 
-none_taken : (A : Type 0) (n : ℕ) (r : Result Captured CaptureError) → [] ≡ images_in {A = A} (visits A n ++ reply.Capture r ∷ [])
+none_taken : (A : Type 0) (n : ℕ) (r : Result Captured CaptureError) → [] ≡ images_in {A = A} (visits A n ++ without_image (reply.Capture r) ∷ [])
 none_taken A zero r = refl
 none_taken A (suc n) r = none_taken A n r
 
 module _ {A : Type 0} where
   -- one capture more
   captured_on : (first core new : CoreView) (r : Result Captured CaptureError) (v : Visited A first core) → VisitsAs core new r →
-      HandlesAll (captures A v.count ++ event.Capture ∷ []) first new (visits A v.count ++ reply.Capture r ∷ [])
-  captured_on first core new r v h = handled_on (captures A v.count) (event.Capture ∷ []) first core new (visits A v.count) (reply.Capture r ∷ []) v.handled (new, (r, refl, h), refl)
+      HandlesAll (captures A v.count ++ event.Capture ∷ []) first new (visits A v.count ++ without_image (reply.Capture r) ∷ [])
+  captured_on first core new r v h = handled_on (captures A v.count) (event.Capture ∷ []) first core new (visits A v.count) (without_image (reply.Capture r) ∷ []) v.handled (new, (r, refl, h), refl)
 
   pub one_visited : (first core new : CoreView) (r : Result Captured CaptureError) → Visited A first core → VisitsAs core new r → r ≡ Ok Slot → Visited A first new
   one_visited first core new r v h is =
       let on = moves core new r h is in
-      let all = subst (λ x. HandlesAll (captures A v.count ++ event.Capture ∷ []) first new (visits A v.count ++ reply.Capture x ∷ [])) is (captured_on first core new r v h) in
+      let all = subst (λ x. HandlesAll (captures A v.count ++ event.Capture ∷ []) first new (visits A v.count ++ without_image (reply.Capture x) ∷ [])) is (captured_on first core new r v h) in
       let events : captures A v.count ++ event.Capture ∷ [] ≡ captures A (v.count + 1) = replicate_more v.count event.Capture in
-      let replies : visits A v.count ++ reply.Capture (Ok Slot) ∷ [] ≡ visits A (v.count + 1) = replicate_more v.count (reply.Capture (Ok Slot)) in
+      let replies : visits A v.count ++ without_image (reply.Capture (Ok Slot)) ∷ [] ≡ visits A (v.count + 1) = replicate_more v.count (without_image (reply.Capture (Ok Slot))) in
       record {
         count = v.count + 1;
         handled = subst (λ es. HandlesAll es first new (visits A (v.count + 1))) events (subst (λ rs. HandlesAll (captures A v.count ++ event.Capture ∷ []) first new rs) replies all);
@@ -64,7 +64,7 @@ module _ {A : Type 0} where
       Carried {A = A} Scans first new text []
   ends_with first core new r v text h ends = record {
     events = captures A v.count ++ event.Capture ∷ [];
-    replies = visits A v.count ++ reply.Capture r ∷ [];
+    each = visits A v.count ++ without_image (reply.Capture r) ∷ [];
     handled = captured_on first core new r v h;
     says = (v.count, r, refl, refl, ends);
     taken = none_taken A v.count r;

@@ -1,5 +1,5 @@
 -- What a script's commands do to a core, and what is printed of it.
-use Rattle.std.specs.Prelude.{◌≡◌, ◌⊎◌, ℕ, zero, suc, codes, List, [], ◌∷◌, ◌++◌, length, map, replicate, Option, Some, None, Result, Ok, Err, slice_get}
+use Rattle.std.specs.Prelude.{◌≡◌, ◌⊎◌, true, false, ℕ, zero, suc, codes, List, [], ◌∷◌, ◌++◌, length, map, replicate, Option, Some, None, Result, Ok, Err, slice_get}
 use Rattle.procedure.specs.Bytes.{Bytes}
 use Rattle.procedure.specs.Procedures.{Procedure}
 use Rattle.steps.specs.CoreViews.{CoreView}
@@ -9,9 +9,10 @@ use Rattle.image.specs.Images.{Image}
 use Rattle.steps.specs.declared.captures.Captured.{Captured}
 use Rattle.steps.specs.declared.captures.Captured.TheVariants.{Slot, Done}
 use Rattle.steps.specs.declared.errors.CaptureError.{CaptureError}
-use Rattle.steps.specs.Schedules.{HandlesAll, image_in, images_in}
+use Rattle.steps.specs.Schedules.{HandlesAll, images_in, without_image}
 use Rattle.steps.specs.declared.schedules.Event.{Event}
 use Rattle.steps.specs.declared.schedules.Event.TheVariants as event
+use Rattle.steps.specs.declared.schedules.Handled.{Handled}
 use Rattle.steps.specs.declared.schedules.Reply.{Reply}
 use Rattle.steps.specs.declared.schedules.Reply.TheVariants as reply
 use Rattle.steps.specs.declared.errors.BeginError.{BeginError}
@@ -50,8 +51,13 @@ EndsScan n (Ok Slot) text = ⊥
 EndsScan n (Ok Done) text = text ≡ numbered_text (codes "slots ") n
 EndsScan n (Err e) text = text ≡ refused_text (capture_error_text e)
 
+-- an image's text, and this one where there is none
+abbrev pub image_or : Option Image → Bytes → Bytes
+image_or None text = text
+image_or (Some i) text = image_text i
+
 module _ {A : Type 0} where
-  -- what is printed of one reply
+  -- what is printed of one reply; that an image was taken is printed as the image
   abbrev pub reply_text : Reply A → Bytes
   reply_text (reply.Begin (Ok x)) = codes "ok\n"
   reply_text (reply.Begin (Err e)) = refused_text (begin_error_text e)
@@ -68,21 +74,27 @@ module _ {A : Type 0} where
   reply_text (reply.Capture (Ok Slot)) = codes "slot\n"
   reply_text (reply.Capture (Ok Done)) = codes "done\n"
   reply_text (reply.Capture (Err e)) = refused_text (capture_error_text e)
-  reply_text (reply.TakeImage None) = codes "none\n"
-  reply_text (reply.TakeImage (Some i)) = image_text i
+  reply_text (reply.TakeImage true) = []
+  reply_text (reply.TakeImage false) = codes "none\n"
   reply_text (reply.Reclaim None) = codes "none\n"
   reply_text (reply.Reclaim (Some key)) = key_text key
   reply_text (reply.Abandon (Ok n)) = numbered_text (codes "abandoned ") n
   reply_text (reply.Abandon (Err e)) = refused_text (abandon_error_text e)
 
+  -- what is printed of one event: the image that it took, or else its reply
+  abbrev pub handled_text : Handled A → Bytes
+  handled_text h = image_or h.image (reply_text h.reply)
+
   -- what is printed of a command
   abbrev pub shown_text : Shown A → Bytes
   shown_text (shown.Reply r) = reply_text r
+  shown_text (shown.Image i) = image_text i
   shown_text (shown.Scanned n) = numbered_text (codes "slots ") n
 
   -- the image that a command took, if it took one
   abbrev pub images_shown : Shown A → Images
-  images_shown (shown.Reply r) = image_in r
+  images_shown (shown.Reply r) = []
+  images_shown (shown.Image i) = i ∷ []
   images_shown (shown.Scanned n) = []
 
   -- the event by which a call begins
@@ -99,38 +111,38 @@ module _ {A : Type 0} where
   Begins c event.Abandon = ⊥
 
   -- the end of a call: one event, and where its reply is a refusal one by which the call is given up
-  abbrev pub Ends : ℕ → List (Event A) → List (Reply A) → Bytes → Type 0
+  abbrev pub Ends : ℕ → List (Event A) → List (Handled A) → Bytes → Type 0
   Ends s es rs text =
-      ((a : Answer A) × (es ≡ event.Finish s ∷ []) × (rs ≡ reply.Finish (Ok a) ∷ []) × (text ≡ answer_text a.place a.outcome a.replies))
-      ⊎ ((e : FinishError) × (r : Reply A) × (es ≡ event.Finish s ∷ event.GiveUp s ∷ []) × (rs ≡ reply.Finish (Err e) ∷ r ∷ []) × (text ≡ refused_text (finish_error_text e)))
+      ((a : Answer A) × (es ≡ event.Finish s ∷ []) × (rs ≡ without_image (reply.Finish (Ok a)) ∷ []) × (text ≡ answer_text a.place a.outcome a.replies))
+      ⊎ ((e : FinishError) × (r : Handled A) × (es ≡ event.Finish s ∷ event.GiveUp s ∷ []) × (rs ≡ without_image (reply.Finish (Err e)) ∷ r ∷ []) × (text ≡ refused_text (finish_error_text e)))
 
   -- a call that has begun and has at most so many instructions left: steps until one answers that it is ready, and its end; where a step is refused the call is given up
-  abbrev pub GoesOn : ℕ → ℕ → List (Event A) → List (Reply A) → Bytes → Type 0
+  abbrev pub GoesOn : ℕ → ℕ → List (Event A) → List (Handled A) → Bytes → Type 0
   GoesOn zero s es rs text = Ends s es rs text
   GoesOn (suc n) s es rs text =
-      ((fs : List (Event A)) × (qs : List (Reply A)) × (es ≡ event.Step s ∷ fs) × (rs ≡ reply.Step (Ok Ran) ∷ qs) × GoesOn n s fs qs text)
-      ⊎ ((fs : List (Event A)) × (qs : List (Reply A)) × (es ≡ event.Step s ∷ fs) × (rs ≡ reply.Step (Ok Ready) ∷ qs) × Ends s fs qs text)
-      ⊎ ((e : StepError) × (r : Reply A) × (es ≡ event.Step s ∷ event.GiveUp s ∷ []) × (rs ≡ reply.Step (Err e) ∷ r ∷ []) × (text ≡ refused_text (step_error_text e)))
+      ((fs : List (Event A)) × (qs : List (Handled A)) × (es ≡ event.Step s ∷ fs) × (rs ≡ without_image (reply.Step (Ok Ran)) ∷ qs) × GoesOn n s fs qs text)
+      ⊎ ((fs : List (Event A)) × (qs : List (Handled A)) × (es ≡ event.Step s ∷ fs) × (rs ≡ without_image (reply.Step (Ok Ready)) ∷ qs) × Ends s fs qs text)
+      ⊎ ((e : StepError) × (r : Handled A) × (es ≡ event.Step s ∷ event.GiveUp s ∷ []) × (rs ≡ without_image (reply.Step (Err e)) ∷ r ∷ []) × (text ≡ refused_text (step_error_text e)))
 
   -- the whole of a call
-  abbrev pub Calls : List Procedure → NewCall (List Bytes) → List (Event A) → List (Reply A) → Bytes → Type 0
+  abbrev pub Calls : List Procedure → NewCall (List Bytes) → List (Event A) → List (Handled A) → Bytes → Type 0
   Calls catalog c es rs text =
-      ((e : BeginError) × (b : Event A) × Begins c b × (es ≡ b ∷ []) × (rs ≡ reply.Begin (Err e) ∷ []) × (text ≡ refused_text (begin_error_text e)))
-      ⊎ ((b : Event A) × (fs : List (Event A)) × (qs : List (Reply A)) × Begins c b × (es ≡ b ∷ fs) × (rs ≡ reply.Begin (Ok tt) ∷ qs) × GoesOn (count_of (slice_get catalog c.procedure)) c.session fs
+      ((e : BeginError) × (b : Event A) × Begins c b × (es ≡ b ∷ []) × (rs ≡ without_image (reply.Begin (Err e)) ∷ []) × (text ≡ refused_text (begin_error_text e)))
+      ⊎ ((b : Event A) × (fs : List (Event A)) × (qs : List (Handled A)) × Begins c b × (es ≡ b ∷ fs) × (rs ≡ without_image (reply.Begin (Ok tt)) ∷ qs) × GoesOn (count_of (slice_get catalog c.procedure)) c.session fs
       qs text)
 
-  -- one event, and what is printed of its reply
-  abbrev pub Says : Event A → List (Event A) → List (Reply A) → Bytes → Type 0
-  Says e es rs text = (r : Reply A) × (es ≡ e ∷ []) × (rs ≡ r ∷ []) × (text ≡ reply_text r)
+  -- one event, and what is printed of it
+  abbrev pub Says : Event A → List (Event A) → List (Handled A) → Bytes → Type 0
+  Says e es rs text = (r : Handled A) × (es ≡ e ∷ []) × (rs ≡ r ∷ []) × (text ≡ handled_text r)
 
   -- captures, each of which visits a place but for the last one
-  abbrev pub Scans : List (Event A) → List (Reply A) → Bytes → Type 0
+  abbrev pub Scans : List (Event A) → List (Handled A) → Bytes → Type 0
   Scans es rs text =
-      (n : ℕ) × (last : Result Captured CaptureError) × (es ≡ replicate n event.Capture ++ event.Capture ∷ []) × (rs ≡ replicate n (reply.Capture (Ok Slot)) ++ reply.Capture last ∷ []) × EndsScan n
+      (n : ℕ) × (last : Result Captured CaptureError) × (es ≡ replicate n event.Capture ++ event.Capture ∷ []) × (rs ≡ replicate n (without_image (reply.Capture (Ok Slot))) ++ without_image (reply.Capture last) ∷ []) × EndsScan n
       last text
 
-  -- the events that a command is, with their replies, and what is printed of them
-  abbrev pub Carries : List Procedure → Command (List Bytes) → List (Event A) → List (Reply A) → Bytes → Type 0
+  -- the events that a command is, with what came of each, and what is printed of them
+  abbrev pub Carries : List Procedure → Command (List Bytes) → List (Event A) → List (Handled A) → Bytes → Type 0
   Carries catalog (command.Begin c) es rs text = (b : Event A) × Begins c b × Says b es rs text
   Carries catalog (command.Step s) es rs text = Says (event.Step s) es rs text
   Carries catalog (command.Finish s) es rs text = Says (event.Finish s) es rs text
@@ -145,19 +157,19 @@ module _ {A : Type 0} where
   Carries catalog command.Abandon es rs text = Says event.Abandon es rs text
 
   -- the commands, one after another
-  abbrev pub CarriesAll : List Procedure → List (Command (List Bytes)) → List (Event A) → List (Reply A) → Bytes → Type 0
+  abbrev pub CarriesAll : List Procedure → List (Command (List Bytes)) → List (Event A) → List (Handled A) → Bytes → Type 0
   CarriesAll catalog [] es rs text = (es ≡ []) × (rs ≡ []) × (text ≡ [])
   CarriesAll catalog (c ∷ cs) es rs text =
-      (fs : List (Event A)) × (gs : List (Event A)) × (qs : List (Reply A)) × (ps : List (Reply A)) × (first : Bytes) × (others : Bytes) × (es ≡ fs ++ gs) × (rs ≡ qs ++ ps) ×
+      (fs : List (Event A)) × (gs : List (Event A)) × (qs : List (Handled A)) × (ps : List (Handled A)) × (first : Bytes) × (others : Bytes) × (es ≡ fs ++ gs) × (rs ≡ qs ++ ps) ×
       (text ≡ first ++ others) × Carries catalog c fs qs first × CarriesAll catalog cs gs ps others
 
   -- events that a core carried out, what is printed of them, and the images that they took, in order
-  pub record Carried (P : List (Event A) → List (Reply A) → Bytes → Type 0) (old new : CoreView) (text : Bytes) (images : Images) : Type 0 where
+  pub record Carried (P : List (Event A) → List (Handled A) → Bytes → Type 0) (old new : CoreView) (text : Bytes) (images : Images) : Type 0 where
     pub events : List (Event A)
-    pub replies : List (Reply A)
-    pub handled : HandlesAll events old new replies
-    pub says : P events replies text
-    pub taken : images ≡ images_in replies
+    pub each : List (Handled A)
+    pub handled : HandlesAll events old new each
+    pub says : P events each text
+    pub taken : images ≡ images_in each
 
 module _ (A : Type 0) where
   -- some of the commands from the front on, carried out

@@ -5,7 +5,7 @@ ghost use Rattle.std.specs.Prelude.{List};
 ghost use Rattle.steps.specs.CoreViews.{CoreView};
 ghost use Rattle.steps.specs.Schedules.{HandlesAll, images_in};
 ghost use Rattle.steps.specs.declared.schedules.Event.{Event};
-ghost use Rattle.steps.specs.declared.schedules.Reply.{Reply};
+ghost use Rattle.steps.specs.declared.schedules.Handled.{Handled};
 ghost use Rattle.calcdb.specs.OwnFiles.{AreItsImages, HasHistory};
 
 use std::alloc::Allocator;
@@ -14,7 +14,7 @@ use steps::Core;
 /// The log of every core, and the images that events took of it, are as a recovery of its files asks for.
 pub(crate) fn recovery_law<A: Allocator>(core: &Core<A>)
     ensures history { HasHistory core.now }
-    ensures images { (first : CoreView) (events : List (Event A)) (replies : List (Reply A)) → HandlesAll events first core.now replies → AreItsImages core.now (images_in replies) }
+    ensures images { (first : CoreView) (events : List (Event A)) (each : List (Handled A)) → HandlesAll events first core.now each → AreItsImages core.now (images_in each) }
 {
     // Brings in what holds of the log and of the opening of every core.
     let _records = core.records();

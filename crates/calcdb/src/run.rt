@@ -1,9 +1,8 @@
 //! The commands of a script, carried out on a core.
 
-ghost use Rattle.std.specs.Prelude.{◌≡◌, ◌≤◌, ◌+◌, ◌++◌, IfErr, IfOk, OnOk, Err, codes, slice_get, vec_capacity, vec_len};
+ghost use Rattle.std.specs.Prelude.{◌≡◌, ◌≤◌, ◌+◌, ◌++◌, [], IfErr, IfOk, OnOk, Err, codes, slice_get, vec_capacity, vec_len};
 ghost use Rattle.std.specs.Io.KnownBytes.{Appends};
 ghost use Rattle.procedure.specs.Bytes.{Bytes};
-ghost use Rattle.steps.specs.Schedules.{image_in};
 ghost use Rattle.phase.specs.Phases.{phase_text};
 ghost use Rattle.calcdb.specs.Runs.{Calls, Carried, Carries, CarriesAll, Ends, GoesOn, HasRun, Images, Says, Scans, Sent, count_of, images_shown, reply_text, shown_text};
 
@@ -18,7 +17,7 @@ use procedure::NoMemory;
 use procedure::streams::{WriteFault, write_out};
 use std::alloc::Allocator;
 use std::io::Write;
-use steps::schedules::{Event, Reply};
+use steps::schedules::{Event, Handled, Reply};
 use steps::{Captured, Core, Stepped};
 
 /// How many instructions a procedure of the core has; 0 where there is none.
@@ -33,7 +32,7 @@ fn count_of<A: Allocator>(core: &Core<A>, procedure: u16) -> usize
 
 /// Answers a session's call; it is given up where that is refused.
 fn end_call<A: Allocator + Clone>(core: &mut Core<A>, session: u16) -> Reply<A>
-    ensures { Carried {A = A} (Ends session) core.old core.new (reply_text result) (image_in result) }
+    ensures { Carried {A = A} (Ends session) core.old core.new (reply_text result) [] }
 {
     match core.finish(session) {
         Ok(answer) => Reply::Finish(Ok(answer)),
@@ -47,7 +46,7 @@ fn end_call<A: Allocator + Clone>(core: &mut Core<A>, session: u16) -> Reply<A>
 /// Steps of a session's call until it is ready, at most `count`, and its end; it is given up where a
 /// step is refused.
 fn go_on<A: Allocator + Clone>(core: &mut Core<A>, session: u16, count: usize) -> Reply<A>
-    ensures { Carried {A = A} (GoesOn count session) core.old core.new (reply_text result) (image_in result) }
+    ensures { Carried {A = A} (GoesOn count session) core.old core.new (reply_text result) [] }
 {
     for _ in 0..count {
         match core.step(session) {
@@ -64,7 +63,7 @@ fn go_on<A: Allocator + Clone>(core: &mut Core<A>, session: u16, count: usize) -
 
 /// Begins a call, executes it and returns it.
 fn run_call<A: Allocator + Clone>(core: &mut Core<A>, call: NewCall<Arguments<A>>) -> Reply<A>
-    ensures { Carried {A = A} (Calls core.old.catalog call) core.old core.new (reply_text result) (image_in result) }
+    ensures { Carried {A = A} (Calls core.old.catalog call) core.old core.new (reply_text result) [] }
 {
     let NewCall {
         session,
@@ -79,11 +78,13 @@ fn run_call<A: Allocator + Clone>(core: &mut Core<A>, call: NewCall<Arguments<A>
     }
 }
 
-/// What is printed of a command, and the image that it took.
+/// What is printed of a command.
 #[derive(Debug, Drop)]
 pub(crate) enum Shown<A: Allocator> {
     /// The reply of its event, or of the one that ended it.
     Reply(Reply<A>),
+    /// The image that it took.
+    Image(Image<A>),
     /// How many places it visited of a scan that is over.
     Scanned(usize),
 }
@@ -106,7 +107,11 @@ fn scan<A: Allocator + Clone>(core: &mut Core<A>) -> Shown<A>
 fn handle<A: Allocator + Clone>(core: &mut Core<A>, event: Event<A>) -> Shown<A>
     ensures { Carried {A = A} (Says event) core.old core.new (shown_text result) (images_shown result) }
 {
-    Shown::Reply(core.handle(event))
+    let Handled { reply, image } = core.handle(event);
+    match image {
+        Some(image) => Shown::Image(image),
+        None => Shown::Reply(reply),
+    }
 }
 
 /// Carries out a command, and hands on what is printed of it.
@@ -152,7 +157,7 @@ fn push_phase<A: Allocator>(out: &mut Vec<u8, A>, phase: Phase) -> Result<(), No
     push_text(out, b"\n")
 }
 
-/// The line that is printed of a reply, and of an image a line for each entry.
+/// The line that is printed of a reply; none where an image was taken, which is printed in its place.
 fn push_reply<A: Allocator + Clone>(out: &mut Vec<u8, A>, reply: &Reply<A>) -> Result<(), NoMemory>
     ensures { OnOk result (out.new.items ≡ out.old.items ++ reply_text reply.now) }
 {
@@ -177,8 +182,8 @@ fn push_reply<A: Allocator + Clone>(out: &mut Vec<u8, A>, reply: &Reply<A>) -> R
         Reply::Capture(Ok(Captured::Slot)) => push_text(out, b"slot\n"),
         Reply::Capture(Ok(Captured::Done)) => push_text(out, b"done\n"),
         Reply::Capture(Err(refused)) => push_refusal(out, refused.name().as_bytes()),
-        Reply::TakeImage(None) => push_text(out, b"none\n"),
-        Reply::TakeImage(Some(image)) => push_image(out, image),
+        Reply::TakeImage(true) => Ok(()),
+        Reply::TakeImage(false) => push_text(out, b"none\n"),
         Reply::Reclaim(None) => push_text(out, b"none\n"),
         Reply::Reclaim(Some(key)) => push_key(out, key.as_bytes()),
         Reply::Abandon(Ok(number)) => push_numbered(out, b"abandoned ", *number),
@@ -195,6 +200,7 @@ pub(crate) fn push_shown<A: Allocator + Clone>(
 {
     match shown {
         Shown::Reply(reply) => push_reply(out, reply),
+        Shown::Image(image) => push_image(out, image),
         Shown::Scanned(count) => push_numbered(out, b"slots ", *count as u64),
     }
 }
@@ -213,7 +219,7 @@ fn keep_image<A: Allocator>(images: &mut Vec<Image<A>, A>, shown: Shown<A>)
     ensures { images.new.items ≡ images.old.items ++ images_shown shown }
 {
     match shown {
-        Shown::Reply(Reply::TakeImage(Some(image))) => images.push_reserved(image),
+        Shown::Image(image) => images.push_reserved(image),
         _ => {}
     }
 }

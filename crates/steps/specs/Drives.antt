@@ -5,15 +5,15 @@ use Rattle.commitlog.specs.Records.{Record, Token, Call}
 use Rattle.image.specs.Images.{Image}
 use Rattle.steps.specs.CoreViews.{CoreView}
 use Rattle.steps.specs.Openings.{IsOpened}
-use Rattle.steps.specs.Schedules.{HandlesAll}
+use Rattle.steps.specs.Schedules.{HandlesWith}
 use Rattle.steps.specs.declared.schedules.Event.{Event}
 use Rattle.steps.specs.declared.schedules.Reply.{Reply}
 
--- the events from a core that was just opened
-pub record IsDriven {A : Type 0} (c : List Procedure) (i : Image) (events : List (Event A)) (core : CoreView) (replies : List (Reply A)) : Type 0 where
+-- the events from a core that was just opened, with their replies and the images that they took
+pub record IsDriven {A : Type 0} (c : List Procedure) (i : Image) (events : List (Event A)) (core : CoreView) (replies : List (Reply A)) (images : List Image) : Type 0 where
   pub first : CoreView
   pub opened : IsOpened c i first
-  pub handled : HandlesAll events first core replies
+  pub handled : HandlesWith events first core replies images
 
 -- each record stands at its place
 abbrev pub EachStands : List Record → List (ℕ × Record) → Type 0

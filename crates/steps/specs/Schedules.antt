@@ -1,5 +1,5 @@
 -- What the events of a schedule do to a core, and how they are answered.
-use Rattle.std.specs.Prelude.{◌≡◌, ◌↔◌, ℕ, Bool, true, false, List, [], ◌∷◌, ◌++◌, map, slice_index_or, slice_set, Option, Some, None, Ok, Err, OnOk, OnErr, IfOk, IsOk, IfSome, IsSome, is_ok, is_some, suc}
+use Rattle.std.specs.Prelude.{◌≡◌, ◌↔◌, ℕ, Bool, true, false, List, [], ◌∷◌, ◌++◌, flat_map, map, option_to_list, slice_index_or, slice_set, Option, Some, None, Ok, Err, OnOk, OnErr, IfOk, IsOk, IfSome, IsSome, is_ok, is_some, suc}
 use Rattle.std.specs.declared.result.Result.{Result}
 use Rattle.procedure.specs.Bytes.{Bytes}
 use Rattle.commitlog.specs.Records.{Record, Call}
@@ -33,6 +33,7 @@ use Rattle.steps.specs.declared.errors.NotActive.{NotActive}
 use Rattle.steps.specs.declared.finish.Answer.{Answer}
 use Rattle.steps.specs.declared.schedules.Event.{Event}
 use Rattle.steps.specs.declared.schedules.Event.TheVariants as event
+use Rattle.steps.specs.declared.schedules.Handled.{Handled}
 use Rattle.steps.specs.declared.schedules.Reply.{Reply}
 use Rattle.steps.specs.declared.schedules.Reply.TheVariants as reply
 use Rattle.steps.specs.declared.step.Stepped.{Stepped}
@@ -97,26 +98,48 @@ pub record AbandonsAs (old new : CoreView) (r : Result ℕ AbandonError) : Type 
   pub refusal : Answers (abandon_refusal old) abandoning.NoMemory r
 
 module _ {A : Type 0} where
-  abbrev pub Handles : Event A → (old new : CoreView) → Reply A → Type 0
-  Handles (event.Begin s n p args) old new x = (r : Result (Unit {0}) BeginError) × (x ≡ reply.Begin r) × BeginsAs old new s n p (map (λ b. b.items) args.items) r
-  Handles (event.Step s) old new x = (r : Result Stepped StepError) × (x ≡ reply.Step r) × StepsAs old new s r
-  Handles (event.Finish s) old new x = (r : Result (Answer A) FinishError) × (x ≡ reply.Finish r) × FinishesAs old new s r
-  Handles (event.GiveUp s) old new x = (r : Result (Unit {0}) NotActive) × (x ≡ reply.GiveUp r) × GivesUpAs old new s r
-  Handles (event.Start k) old new x = (r : Result ℕ StartError) × (x ≡ reply.Start r) × StartsAs old new k r
-  Handles event.Advance old new x = (r : Result Phase AdvanceError) × (x ≡ reply.Advance r) × AdvancesAs old new r
-  Handles event.Capture old new x = (r : Result Captured CaptureError) × (x ≡ reply.Capture r) × VisitsAs old new r
-  Handles event.TakeImage old new x = (i : Option Image) × (x ≡ reply.TakeImage i) × TakesImage old new i
-  Handles event.Reclaim old new x = (gone : Option Bytes) × (x ≡ reply.Reclaim gone) × ReclaimsAs old new gone
-  Handles event.Abandon old new x = (r : Result ℕ AbandonError) × (x ≡ reply.Abandon r) × AbandonsAs old new r
+  -- the reply to an event that takes no image
+  abbrev pub without_image : Reply A → Handled A
+  without_image r = record { reply = r; image = None }
+
+  abbrev pub Handles : Event A → (old new : CoreView) → Handled A → Type 0
+  Handles (event.Begin s n p args) old new x = (r : Result (Unit {0}) BeginError) × (x ≡ without_image (reply.Begin r)) × BeginsAs old new s n p (map (λ b. b.items) args.items) r
+  Handles (event.Step s) old new x = (r : Result Stepped StepError) × (x ≡ without_image (reply.Step r)) × StepsAs old new s r
+  Handles (event.Finish s) old new x = (r : Result (Answer A) FinishError) × (x ≡ without_image (reply.Finish r)) × FinishesAs old new s r
+  Handles (event.GiveUp s) old new x = (r : Result (Unit {0}) NotActive) × (x ≡ without_image (reply.GiveUp r)) × GivesUpAs old new s r
+  Handles (event.Start k) old new x = (r : Result ℕ StartError) × (x ≡ without_image (reply.Start r)) × StartsAs old new k r
+  Handles event.Advance old new x = (r : Result Phase AdvanceError) × (x ≡ without_image (reply.Advance r)) × AdvancesAs old new r
+  Handles event.Capture old new x = (r : Result Captured CaptureError) × (x ≡ without_image (reply.Capture r)) × VisitsAs old new r
+  Handles event.TakeImage old new x = (i : Option Image) × (x ≡ record { reply = reply.TakeImage (is_some i); image = i }) × TakesImage old new i
+  Handles event.Reclaim old new x = (gone : Option Bytes) × (x ≡ without_image (reply.Reclaim gone)) × ReclaimsAs old new gone
+  Handles event.Abandon old new x = (r : Result ℕ AbandonError) × (x ≡ without_image (reply.Abandon r)) × AbandonsAs old new r
 
   -- ALL OF THEM
 
-  -- the events, one after another, each with its reply
-  abbrev pub HandlesAll : List (Event A) → (old new : CoreView) → List (Reply A) → Type 0
+  -- the events, one after another, each with what came of it
+  abbrev pub HandlesAll : List (Event A) → (old new : CoreView) → List (Handled A) → Type 0
   HandlesAll [] old new [] = old ≡ new
-  HandlesAll [] old new (r ∷ rs) = ⊥
+  HandlesAll [] old new (h ∷ hs) = ⊥
   HandlesAll (e ∷ es) old new [] = ⊥
-  HandlesAll (e ∷ es) old new (r ∷ rs) = (between : CoreView) × Handles e old between r × HandlesAll es between new rs
+  HandlesAll (e ∷ es) old new (h ∷ hs) = (between : CoreView) × Handles e old between h × HandlesAll es between new hs
+
+  -- the replies, one for each event
+  abbrev pub replies_in : List (Handled A) → List (Reply A)
+  replies_in hs = map (λ h. h.reply) hs
+
+  abbrev pub image_in : Handled A → List Image
+  image_in h = option_to_list h.image
+
+  -- the images that were taken, in their order
+  abbrev pub images_in : List (Handled A) → List Image
+  images_in hs = flat_map image_in hs
+
+  -- the events, one after another, with the replies to them and the images that they took
+  pub record HandlesWith (events : List (Event A)) (old new : CoreView) (replies : List (Reply A)) (images : List Image) : Type 0 where
+    pub each : List (Handled A)
+    pub handled : HandlesAll events old new each
+    pub replied : replies ≡ replies_in each
+    pub taken : images ≡ images_in each
 
   -- WHAT WAS ANSWERED, BY THE EVENTS AND THE REPLIES ALONE
 
@@ -128,7 +151,7 @@ module _ {A : Type 0} where
   is_accepted (reply.Start r) = is_ok r
   is_accepted (reply.Advance r) = is_ok r
   is_accepted (reply.Capture r) = is_ok r
-  is_accepted (reply.TakeImage i) = is_some i
+  is_accepted (reply.TakeImage took) = took
   is_accepted (reply.Reclaim key) = is_some key
   is_accepted (reply.Abandon r) = is_ok r
 
@@ -169,7 +192,7 @@ module _ {A : Type 0} where
   answer_to (event.Finish s) (reply.Start r) b = []
   answer_to (event.Finish s) (reply.Advance r) b = []
   answer_to (event.Finish s) (reply.Capture r) b = []
-  answer_to (event.Finish s) (reply.TakeImage i) b = []
+  answer_to (event.Finish s) (reply.TakeImage took) b = []
   answer_to (event.Finish s) (reply.Reclaim key) b = []
   answer_to (event.Finish s) (reply.Abandon r) b = []
 
@@ -179,22 +202,15 @@ module _ {A : Type 0} where
   answered_calls (e ∷ es) [] b = []
   answered_calls (e ∷ es) (r ∷ rs) b = answer_to e r b ++ answered_calls es rs (begun_by e (is_accepted r) b)
 
-  -- THE IMAGES THAT WERE TAKEN
-
-  abbrev pub image_in : Reply A → List Image
-  image_in (reply.Begin r) = []
-  image_in (reply.Step r) = []
-  image_in (reply.Finish r) = []
-  image_in (reply.GiveUp r) = []
-  image_in (reply.Start r) = []
-  image_in (reply.Advance r) = []
-  image_in (reply.Capture r) = []
-  image_in (reply.TakeImage None) = []
-  image_in (reply.TakeImage (Some i)) = i ∷ []
-  image_in (reply.Reclaim key) = []
-  image_in (reply.Abandon r) = []
-
-  -- the images in the replies, in their order
-  abbrev pub images_in : List (Reply A) → List Image
-  images_in [] = []
-  images_in (r ∷ rs) = image_in r ++ images_in rs
+  -- does a reply say that an image was taken?
+  abbrev pub is_taken : Reply A → Bool
+  is_taken (reply.Begin r) = false
+  is_taken (reply.Step r) = false
+  is_taken (reply.Finish r) = false
+  is_taken (reply.GiveUp r) = false
+  is_taken (reply.Start r) = false
+  is_taken (reply.Advance r) = false
+  is_taken (reply.Capture r) = false
+  is_taken (reply.TakeImage took) = took
+  is_taken (reply.Reclaim key) = false
+  is_taken (reply.Abandon r) = false

@@ -2,9 +2,10 @@
 use Rattle.std.specs.Prelude.{◌≡◌, ℕ, suc, Bool, false, ◌||◌, List, [], ◌∷◌, Ok, Err, is_ok}
 use Rattle.phase.specs.declared.phases.Phase.TheVariants.{Capture, Complete}
 use Rattle.steps.specs.CoreViews.{CoreView}
-use Rattle.steps.specs.Schedules.{AdvancesAs, HandlesAll}
+use Rattle.steps.specs.Schedules.{AdvancesAs, HandlesAll, replies_in}
 use Rattle.steps.specs.declared.captures.Captured.TheVariants.{Slot, Done}
 use Rattle.steps.specs.declared.schedules.Event.{Event}
+use Rattle.steps.specs.declared.schedules.Handled.{Handled}
 use Rattle.steps.specs.declared.schedules.Reply.{Reply}
 use Rattle.steps.specs.declared.schedules.Reply.TheVariants as reply
 
@@ -19,7 +20,7 @@ module _ {A : Type 0} where
   enters (reply.Finish r) = false
   enters (reply.GiveUp r) = false
   enters (reply.Capture r) = false
-  enters (reply.TakeImage i) = false
+  enters (reply.TakeImage took) = false
   enters (reply.Reclaim key) = false
 
   abbrev pub any_enters : List (Reply A) → Bool
@@ -38,7 +39,7 @@ module _ {A : Type 0} where
   visits (reply.GiveUp r ∷ rs) = visits rs
   visits (reply.Start r ∷ rs) = visits rs
   visits (reply.Advance r ∷ rs) = visits rs
-  visits (reply.TakeImage i ∷ rs) = visits rs
+  visits (reply.TakeImage took ∷ rs) = visits rs
   visits (reply.Reclaim key ∷ rs) = visits rs
   visits (reply.Abandon r ∷ rs) = visits rs
 
@@ -46,6 +47,6 @@ module _ {A : Type 0} where
 -- visited exactly as many places as the scan had when it began
 abbrev pub ScansWhole : Type 0 → Type 0
 ScansWhole A =
-    (events : List (Event A)) (replies : List (Reply A)) (before first last after : CoreView) →
-    AdvancesAs before first (Ok Capture) → HandlesAll events first last replies → any_enters replies ≡ false → AdvancesAs last after (Ok Complete) →
-    visits replies ≡ first.checkpoint.bound
+    (events : List (Event A)) (each : List (Handled A)) (before first last after : CoreView) →
+    AdvancesAs before first (Ok Capture) → HandlesAll events first last each → any_enters (replies_in each) ≡ false → AdvancesAs last after (Ok Complete) →
+    visits (replies_in each) ≡ first.checkpoint.bound

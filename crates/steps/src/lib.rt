@@ -37,6 +37,6 @@ pub use errors::{
     StartError, StepError,
 };
 pub use finish::Answer;
-pub use schedules::{Event, Reply};
+pub use schedules::{Event, Handled, Reply};
 pub use step::Stepped;
 pub use versions::Versions;

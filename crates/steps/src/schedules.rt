@@ -1,6 +1,7 @@
 //! The events of a schedule, and how they are answered.
 
-ghost use Rattle.steps.specs.Schedules.{Handles};
+ghost use Rattle.std.specs.Prelude.{◌≡◌};
+ghost use Rattle.steps.specs.Schedules.{Handles, without_image};
 
 use crate::captures::Captured;
 use crate::cores::Core;
@@ -52,32 +53,53 @@ pub enum Reply<A: Allocator> {
     /// The phase that was entered.
     Advance(Result<Phase, AdvanceError>),
     Capture(Result<Captured, CaptureError>),
-    /// None where no image waited.
-    TakeImage(Option<Image<A>>),
+    /// Whether an image waited, and was taken.
+    TakeImage(bool),
     /// The key whose record went, if one did.
     Reclaim(Option<Key>),
     /// The number of the checkpoint.
     Abandon(Result<u64, AbandonError>),
 }
 
+/// What came of an event: its reply, and the image that it took.
+#[derive(Debug, Drop)]
+pub struct Handled<A: Allocator> {
+    pub reply: Reply<A>,
+    /// None but where the reply is that an image was taken.
+    pub image: Option<Image<A>>,
+}
+
+/// What came of an event that takes no image.
+fn without_image<A: Allocator>(reply: Reply<A>) -> Handled<A>
+    ensures { result ≡ without_image reply }
+{
+    Handled { reply, image: None }
+}
+
 impl<A: Allocator + Clone> Core<A> {
     /// Carries out an event.
-    pub fn handle(&mut self, event: Event<A>) -> Reply<A>
+    pub fn handle(&mut self, event: Event<A>) -> Handled<A>
         ensures { Handles event self.old self.new result }
     {
         match event {
             Event::Begin(session, number, procedure, args) => {
-                Reply::Begin(self.begin(session, number, procedure, args))
+                without_image(Reply::Begin(self.begin(session, number, procedure, args)))
             }
-            Event::Step(session) => Reply::Step(self.step(session)),
-            Event::Finish(session) => Reply::Finish(self.finish(session)),
-            Event::GiveUp(session) => Reply::GiveUp(self.give_up(session)),
-            Event::Start(kind) => Reply::Start(self.start(kind)),
-            Event::Advance => Reply::Advance(self.advance()),
-            Event::Capture => Reply::Capture(self.capture()),
-            Event::TakeImage => Reply::TakeImage(self.take_image()),
-            Event::Reclaim => Reply::Reclaim(self.reclaim()),
-            Event::Abandon => Reply::Abandon(self.abandon()),
+            Event::Step(session) => without_image(Reply::Step(self.step(session))),
+            Event::Finish(session) => without_image(Reply::Finish(self.finish(session))),
+            Event::GiveUp(session) => without_image(Reply::GiveUp(self.give_up(session))),
+            Event::Start(kind) => without_image(Reply::Start(self.start(kind))),
+            Event::Advance => without_image(Reply::Advance(self.advance())),
+            Event::Capture => without_image(Reply::Capture(self.capture())),
+            Event::TakeImage => {
+                let image = self.take_image();
+                Handled {
+                    reply: Reply::TakeImage(image.is_some()),
+                    image,
+                }
+            }
+            Event::Reclaim => without_image(Reply::Reclaim(self.reclaim())),
+            Event::Abandon => without_image(Reply::Abandon(self.abandon())),
         }
     }
 }

@@ -10,7 +10,7 @@ use crate::values::decimal_of;
 use std::alloc::Global;
 use std::process::Abort;
 use std::test::Fail;
-use steps::{Event, Reply, drive};
+use steps::{Event, Reply, Run, drive};
 
 /// A command, and what it writes.
 #[derive(Drop)]
@@ -201,24 +201,31 @@ fn events_of(
     Ok(events)
 }
 
-/// The replies of a core that a script's commands drive.
-fn replies_of(
-    alloc: Global,
-    script: Script<Global>,
-    pairs: &str,
-) -> Result<Vec<Reply<Global>, Global>, Fail> {
+/// What a script's commands make of a core that they drive.
+fn run_of(alloc: Global, script: Script<Global>, pairs: &str) -> Result<Run<Global>, Fail> {
     let Script { catalog, commands } = script;
     let events = events_of(alloc, commands.into_vec())?;
     let opening = opening_of(alloc, pairs)?;
-    Ok(drive(alloc, catalog, opening, events)?.answers)
+    Ok(drive(alloc, catalog, opening, events)?)
 }
 
-/// What is printed of the replies of a core that a script's commands drive, each of them one event.
+/// What is printed of a core that a script's commands drive, each of them one event: its replies, and the
+/// next image for each that one was taken.
 pub(crate) fn driven(alloc: Global, script: &str, pairs: &str) -> Result<Vec<u8, Global>, Fail> {
     let script = read_script(alloc, script.as_bytes())?;
     let mut out = Vec::new(alloc);
-    for reply in replies_of(alloc, script, pairs)? {
-        push_shown(&mut out, &Shown::Reply(reply))?;
+    let Run {
+        answers,
+        images,
+        ..
+    } = run_of(alloc, script, pairs)?;
+    let mut images = images.into_iter();
+    for reply in answers {
+        let shown = match reply {
+            Reply::TakeImage(true) => Shown::Image(images.next().ok_or("no image")?),
+            reply => Shown::Reply(reply),
+        };
+        push_shown(&mut out, &shown)?;
     }
     Ok(out)
 }

@@ -1,7 +1,8 @@
 -- What a schedule's answers say of the log.
-use Rattle.std.proofs.Common.{◌≡◌, ℕ, zero, suc, Bool, true, false, is_some, IfSome, List, [], ◌∷◌, ◌++◌, length, map, Option, Some, None, Vec, Ok, Err, is_ok, IsSome, option_map, replicate, slice_get, slice_set, slice_index_or, refl, sym, ap, ◌∙◌, subst}
+use Rattle.std.proofs.Common.{◌≡◌, ◌+◌, arith, cond, count_by, option_to_list, ℕ, zero, suc, Bool, true, false, is_some, IfSome, List, [], ◌∷◌, ◌++◌, length, map, Option, Some, None, Vec, Ok, Err, is_ok, IsSome, option_map, replicate, slice_get, slice_set, slice_index_or, refl, sym, ap, ◌∙◌, subst}
 use Rattle.std.specs.declared.result.Result.{Result}
-use Rattle.std.proofs.lemmas.List.{append-nil, append_assoc, map-append, map-set, set-get_or}
+use Rattle.std.proofs.lemmas.List.{append-nil, append_assoc, length-append, map-append, map-set, set-get_or}
+use Rattle.std.proofs.lemmas.List.Sums.{sum_by-cons}
 use Rattle.std.proofs.Math.ListN.{get_or-map}
 use Rattle.procedure.specs.Bytes.{Bytes}
 use Rattle.procedure.specs.declared.limits.TheConstants.{SESSIONS}
@@ -17,13 +18,14 @@ use Rattle.steps.specs.Drives.{EachStands, calls_of}
 use Rattle.steps.specs.Refusals.{finish_refusal, step_refusal, unfinished, unstepped}
 use Rattle.steps.specs.Checkpointing.{AdvancesTo, CapturesAs, restarted}
 use Rattle.steps.specs.CutImages.{AllTaken, IsTaken}
-use Rattle.steps.specs.Schedules.{AbandonsAs, AdvancesAs, BeginsAs, FinishesAs, GivesUpAs, Handles, HandlesAll, ReclaimsAs, StartsAs, StepsAs, TakesImage, VisitsAs, answer_to, answered_call, answered_calls, begun_by, image_in, images_in, is_accepted}
+use Rattle.steps.specs.Schedules.{AbandonsAs, AdvancesAs, BeginsAs, FinishesAs, GivesUpAs, Handles, HandlesAll, HandlesWith, ReclaimsAs, StartsAs, StepsAs, TakesImage, VisitsAs, answer_to, answered_call, answered_calls, begun_by, image_in, images_in, is_accepted, is_taken, replies_in}
 use Rattle.steps.specs.declared.captures.Captured.{Captured}
 use Rattle.steps.specs.declared.captures.Captured.TheVariants.{Slot, Done}
 use Rattle.steps.specs.declared.errors.FinishError.{FinishError}
 use Rattle.steps.specs.declared.finish.Answer.{Answer}
 use Rattle.steps.specs.declared.schedules.Event.{Event}
 use Rattle.steps.specs.declared.schedules.Event.TheVariants as event
+use Rattle.steps.specs.declared.schedules.Handled.{Handled}
 use Rattle.steps.specs.declared.schedules.Reply.{Reply}
 use Rattle.steps.specs.declared.schedules.Reply.TheVariants as reply
 use Rattle.steps.proofs.log.ImageChains.{all_taken-grows}
@@ -261,24 +263,24 @@ module _ {A : Type 0} where
       })
   finish_handled s old new (Err x) h = same old new h.refused
 
-  handled : (e : Event A) (old new : CoreView) (r : Reply A) → Handles e old new r → Grows old new (begun_by e (is_accepted r) (begun_in old)) (answer_to e r (begun_in old))
+  handled : (e : Event A) (old new : CoreView) (r : Handled A) → Handles e old new r → Grows old new (begun_by e (is_accepted r.reply) (begun_in old)) (answer_to e r.reply (begun_in old))
   handled (event.Begin s n p args) old new r h =
-      subst (λ (x : Reply A). Grows old new (begun_by {A = A} (event.Begin s n p args) (is_accepted x) (begun_in old)) []) (sym h.1) (begin_handled s n p args old new h.0 h.2)
-  handled (event.Step s) old new r h = subst (λ (x : Reply A). Grows old new (begun_by {A = A} (event.Step s) (is_accepted x) (begun_in old)) []) (sym h.1) (step_handled A s old new h.0 h.2)
+      subst (λ (x : Handled A). Grows old new (begun_by {A = A} (event.Begin s n p args) (is_accepted x.reply) (begun_in old)) []) (sym h.1) (begin_handled s n p args old new h.0 h.2)
+  handled (event.Step s) old new r h = subst (λ (x : Handled A). Grows old new (begun_by {A = A} (event.Step s) (is_accepted x.reply) (begun_in old)) []) (sym h.1) (step_handled A s old new h.0 h.2)
   handled (event.Finish s) old new r h =
-      subst (λ (x : Reply A). Grows old new (begun_by {A = A} (event.Finish s) (is_accepted x) (begun_in old)) (answer_to (event.Finish s) x (begun_in old))) (sym h.1)
+      subst (λ (x : Handled A). Grows old new (begun_by {A = A} (event.Finish s) (is_accepted x.reply) (begun_in old)) (answer_to (event.Finish s) x.reply (begun_in old))) (sym h.1)
       (finish_handled s old new h.0 h.2)
-  handled (event.GiveUp s) old new r h = subst (λ (x : Reply A). Grows old new (begun_by {A = A} (event.GiveUp s) (is_accepted x) (begun_in old)) []) (sym h.1) (give_up_handled A s old new h.0 h.2)
-  handled (event.Start k) old new r h = subst (λ (x : Reply A). Grows old new (begun_by {A = A} (event.Start k) (is_accepted x) (begun_in old)) []) (sym h.1) (start_handled A k old new h.0 h.2)
-  handled event.Advance old new r h = subst (λ (x : Reply A). Grows old new (begun_by {A = A} event.Advance (is_accepted x) (begun_in old)) []) (sym h.1) (advance_handled A old new h.0 h.2)
-  handled event.Capture old new r h = subst (λ (x : Reply A). Grows old new (begun_by {A = A} event.Capture (is_accepted x) (begun_in old)) []) (sym h.1) (capture_handled A old new h.0 h.2)
-  handled event.TakeImage old new r h = subst (λ (x : Reply A). Grows old new (begun_by {A = A} event.TakeImage (is_accepted x) (begun_in old)) []) (sym h.1) (take_handled A old new h.0 h.2)
-  handled event.Reclaim old new r h = subst (λ (x : Reply A). Grows old new (begun_by {A = A} event.Reclaim (is_accepted x) (begun_in old)) []) (sym h.1) (reclaim_handled A old new h.0 h.2)
-  handled event.Abandon old new r h = subst (λ (x : Reply A). Grows old new (begun_by {A = A} event.Abandon (is_accepted x) (begun_in old)) []) (sym h.1) (abandon_handled A old new h.0 h.2)
+  handled (event.GiveUp s) old new r h = subst (λ (x : Handled A). Grows old new (begun_by {A = A} (event.GiveUp s) (is_accepted x.reply) (begun_in old)) []) (sym h.1) (give_up_handled A s old new h.0 h.2)
+  handled (event.Start k) old new r h = subst (λ (x : Handled A). Grows old new (begun_by {A = A} (event.Start k) (is_accepted x.reply) (begun_in old)) []) (sym h.1) (start_handled A k old new h.0 h.2)
+  handled event.Advance old new r h = subst (λ (x : Handled A). Grows old new (begun_by {A = A} event.Advance (is_accepted x.reply) (begun_in old)) []) (sym h.1) (advance_handled A old new h.0 h.2)
+  handled event.Capture old new r h = subst (λ (x : Handled A). Grows old new (begun_by {A = A} event.Capture (is_accepted x.reply) (begun_in old)) []) (sym h.1) (capture_handled A old new h.0 h.2)
+  handled event.TakeImage old new r h = subst (λ (x : Handled A). Grows old new (begun_by {A = A} event.TakeImage (is_accepted x.reply) (begun_in old)) []) (sym h.1) (take_handled A old new h.0 h.2)
+  handled event.Reclaim old new r h = subst (λ (x : Handled A). Grows old new (begun_by {A = A} event.Reclaim (is_accepted x.reply) (begun_in old)) []) (sym h.1) (reclaim_handled A old new h.0 h.2)
+  handled event.Abandon old new r h = subst (λ (x : Handled A). Grows old new (begun_by {A = A} event.Abandon (is_accepted x.reply) (begun_in old)) []) (sym h.1) (abandon_handled A old new h.0 h.2)
 
   -- ALL OF THEM
 
-  all_handled : (es : List (Event A)) (rs : List (Reply A)) (old new : CoreView) → HandlesAll es old new rs → GrowsBy old new (answered_calls es rs (begun_in old))
+  all_handled : (es : List (Event A)) (hs : List (Handled A)) (old new : CoreView) → HandlesAll es old new hs → GrowsBy old new (answered_calls es (replies_in hs) (begun_in old))
   all_handled [] [] old new h = record {
     catalog = ap (λ (v : CoreView). v.catalog) (sym h);
     opening = ap (λ (v : CoreView). v.opening) (sym h);
@@ -287,53 +289,93 @@ module _ {A : Type 0} where
     calls = refl;
     stands = tt;
   }
-  all_handled [] (r ∷ rs) old new h = absurd h
+  all_handled [] (x ∷ hs) old new h = absurd h
   all_handled (e ∷ es) [] old new h = absurd h
-  all_handled (e ∷ es) (r ∷ rs) old new h =
-      let g = handled e old h.0 r h.1 in
-      let rest = subst (λ b. GrowsBy h.0 new (answered_calls es rs b)) g.begun (all_handled es rs h.0 new h.2) in
+  all_handled (e ∷ es) (x ∷ hs) old new h =
+      let r : Reply A = x.reply in
+      let rs : List (Reply A) = replies_in hs in
+      let g = handled e old h.0 x h.1 in
+      let rest = subst (λ b. GrowsBy h.0 new (answered_calls es rs b)) g.begun (all_handled es hs h.0 new h.2) in
       joined old h.0 new (begun_by e (is_accepted r) (begun_in old)) (answer_to e r (begun_in old)) (answered_calls es rs (begun_by e (is_accepted r) (begun_in old))) g rest
 
   -- THE IMAGES
 
-  taken_here : (e : Event A) (old new : CoreView) (r : Reply A) → Handles e old new r → Taken old (image_in r)
-  taken_here (event.Begin s n p args) old new r h = subst (λ (x : Reply A). Taken old (image_in x)) (sym h.1) tt
-  taken_here (event.Step s) old new r h = subst (λ (x : Reply A). Taken old (image_in x)) (sym h.1) tt
-  taken_here (event.Finish s) old new r h = subst (λ (x : Reply A). Taken old (image_in x)) (sym h.1) tt
-  taken_here (event.GiveUp s) old new r h = subst (λ (x : Reply A). Taken old (image_in x)) (sym h.1) tt
-  taken_here (event.Start k) old new r h = subst (λ (x : Reply A). Taken old (image_in x)) (sym h.1) tt
-  taken_here event.Advance old new r h = subst (λ (x : Reply A). Taken old (image_in x)) (sym h.1) tt
-  taken_here event.Capture old new r h = subst (λ (x : Reply A). Taken old (image_in x)) (sym h.1) tt
-  taken_here event.TakeImage old new r h = subst (λ (x : Reply A). Taken old (image_in x)) (sym h.1) (by h.0 h.2.cut)
+  taken_here : (e : Event A) (old new : CoreView) (x : Handled A) → Handles e old new x → Taken old (image_in x)
+  taken_here (event.Begin s n p args) old new x h = subst (λ (y : Handled A). Taken old (image_in y)) (sym h.1) tt
+  taken_here (event.Step s) old new x h = subst (λ (y : Handled A). Taken old (image_in y)) (sym h.1) tt
+  taken_here (event.Finish s) old new x h = subst (λ (y : Handled A). Taken old (image_in y)) (sym h.1) tt
+  taken_here (event.GiveUp s) old new x h = subst (λ (y : Handled A). Taken old (image_in y)) (sym h.1) tt
+  taken_here (event.Start k) old new x h = subst (λ (y : Handled A). Taken old (image_in y)) (sym h.1) tt
+  taken_here event.Advance old new x h = subst (λ (y : Handled A). Taken old (image_in y)) (sym h.1) tt
+  taken_here event.Capture old new x h = subst (λ (y : Handled A). Taken old (image_in y)) (sym h.1) tt
+  taken_here event.TakeImage old new x h = subst (λ (y : Handled A). Taken old (image_in y)) (sym h.1) (by h.0 h.2.cut)
     where
-      by : (i : Option Image) → IfSome i (λ i. IsTaken old.catalog (table_of old.opening) old.log i) → Taken old (image_in {A = A} (reply.TakeImage i))
+      by : (i : Option Image) → IfSome i (λ i. IsTaken old.catalog (table_of old.opening) old.log i) → Taken old (option_to_list i)
       by None x = tt
       by (Some i) x = (x, tt)
-  taken_here event.Reclaim old new r h = subst (λ (x : Reply A). Taken old (image_in x)) (sym h.1) tt
-  taken_here event.Abandon old new r h = subst (λ (x : Reply A). Taken old (image_in x)) (sym h.1) tt
+  taken_here event.Reclaim old new x h = subst (λ (y : Handled A). Taken old (image_in y)) (sym h.1) tt
+  taken_here event.Abandon old new x h = subst (λ (y : Handled A). Taken old (image_in y)) (sym h.1) tt
 
-  pub images_taken : (es : List (Event A)) (rs : List (Reply A)) (old new : CoreView) → HandlesAll es old new rs → Taken new (images_in rs)
+  pub images_taken : (es : List (Event A)) (hs : List (Handled A)) (old new : CoreView) → HandlesAll es old new hs → Taken new (images_in hs)
   images_taken [] [] old new h = tt
-  images_taken [] (r ∷ rs) old new h = absurd h
+  images_taken [] (x ∷ hs) old new h = absurd h
   images_taken (e ∷ es) [] old new h = absurd h
-  images_taken (e ∷ es) (r ∷ rs) old new h =
-      taken_both new (image_in r) (images_in rs)
-      (grown old new (answered_calls (e ∷ es) (r ∷ rs) (begun_in old)) (image_in r) (all_handled (e ∷ es) (r ∷ rs) old new h) (taken_here e old h.0 r h.1))
-      (images_taken es rs h.0 new h.2)
+  images_taken (e ∷ es) (x ∷ hs) old new h =
+      taken_both new (image_in x) (images_in hs)
+      (grown old new (answered_calls (e ∷ es) (replies_in (x ∷ hs)) (begun_in old)) (image_in x) (all_handled (e ∷ es) (x ∷ hs) old new h) (taken_here e old h.0 x h.1))
+      (images_taken es hs h.0 new h.2)
+
+  -- one image for each reply that one was taken
+  one_counted : (e : Event A) (old new : CoreView) (x : Handled A) → Handles e old new x → length (image_in x) ≡ cond (is_taken x.reply) 1 0
+  one_counted (event.Begin s n p args) old new x h = ap (λ (y : Handled A). length (image_in y)) h.1 ∙ sym (ap (λ (y : Handled A). cond (is_taken y.reply) 1 0) h.1)
+  one_counted (event.Step s) old new x h = ap (λ (y : Handled A). length (image_in y)) h.1 ∙ sym (ap (λ (y : Handled A). cond (is_taken y.reply) 1 0) h.1)
+  one_counted (event.Finish s) old new x h = ap (λ (y : Handled A). length (image_in y)) h.1 ∙ sym (ap (λ (y : Handled A). cond (is_taken y.reply) 1 0) h.1)
+  one_counted (event.GiveUp s) old new x h = ap (λ (y : Handled A). length (image_in y)) h.1 ∙ sym (ap (λ (y : Handled A). cond (is_taken y.reply) 1 0) h.1)
+  one_counted (event.Start k) old new x h = ap (λ (y : Handled A). length (image_in y)) h.1 ∙ sym (ap (λ (y : Handled A). cond (is_taken y.reply) 1 0) h.1)
+  one_counted event.Advance old new x h = ap (λ (y : Handled A). length (image_in y)) h.1 ∙ sym (ap (λ (y : Handled A). cond (is_taken y.reply) 1 0) h.1)
+  one_counted event.Capture old new x h = ap (λ (y : Handled A). length (image_in y)) h.1 ∙ sym (ap (λ (y : Handled A). cond (is_taken y.reply) 1 0) h.1)
+  one_counted event.TakeImage old new x h = ap (λ (y : Handled A). length (image_in y)) h.1 ∙ by h.0 ∙ sym (ap (λ (y : Handled A). cond (is_taken y.reply) 1 0) h.1)
+    where
+      by : (i : Option Image) → length (option_to_list i) ≡ cond (is_some i) 1 0
+      by None = refl
+      by (Some i) = refl
+  one_counted event.Reclaim old new x h = ap (λ (y : Handled A). length (image_in y)) h.1 ∙ sym (ap (λ (y : Handled A). cond (is_taken y.reply) 1 0) h.1)
+  one_counted event.Abandon old new x h = ap (λ (y : Handled A). length (image_in y)) h.1 ∙ sym (ap (λ (y : Handled A). cond (is_taken y.reply) 1 0) h.1)
+
+  pub images_counted : (es : List (Event A)) (hs : List (Handled A)) (old new : CoreView) → HandlesAll es old new hs → length (images_in hs) ≡ count_by is_taken (replies_in hs)
+  images_counted [] [] old new h = refl
+  images_counted [] (x ∷ hs) old new h = absurd h
+  images_counted (e ∷ es) [] old new h = absurd h
+  images_counted (e ∷ es) (x ∷ hs) old new h =
+      let first = one_counted e old h.0 x h.1 in
+      let others = images_counted es hs h.0 new h.2 in
+      let both : length (images_in (x ∷ hs)) ≡ length (image_in x) + length (images_in hs) = length-append (image_in x) (images_in hs) in
+      let counted : count_by is_taken (replies_in (x ∷ hs)) ≡ cond (is_taken x.reply) 1 0 + count_by is_taken (replies_in hs) = sum_by-cons (λ (r : Reply A). cond (is_taken r) 1 0) x.reply (replies_in hs) in
+      omega (arith, first, others, both, counted)
 
   -- from an empty log
-  module _ (es : List (Event A)) (rs : List (Reply A)) (first last : CoreView) (log : first.log ≡ []) (calls : first.calls ≡ replicate SESSIONS None) (h : HandlesAll es first last rs) where
-    whole : GrowsBy first last (answered_calls es rs (replicate SESSIONS None))
-    whole = subst (λ b. GrowsBy first last (answered_calls es rs b)) (nothing_begun first calls) (all_handled es rs first last h)
+  module _
+      (es : List (Event A)) (rs : List (Reply A)) (is : List Image) (first last : CoreView) (log : first.log ≡ []) (calls : first.calls ≡ replicate SESSIONS None) (h : HandlesWith es first last rs is)
+    where
+      whole : GrowsBy first last (answered_calls es rs (replicate SESSIONS None))
+      whole =
+          subst (λ qs. GrowsBy first last (answered_calls es qs (replicate SESSIONS None))) (sym h.replied)
+          (subst (λ b. GrowsBy first last (answered_calls es (replies_in h.each) b)) (nothing_begun first calls) (all_handled es h.each first last h.handled))
 
-    pub catalog_driven : last.catalog ≡ first.catalog
-    catalog_driven = whole.catalog
+      pub catalog_driven : last.catalog ≡ first.catalog
+      catalog_driven = whole.catalog
 
-    pub opening_driven : last.opening ≡ first.opening
-    opening_driven = whole.opening
+      pub opening_driven : last.opening ≡ first.opening
+      opening_driven = whole.opening
 
-    pub calls_driven : calls_of last.log ≡ map second (answered_calls es rs (replicate SESSIONS None))
-    calls_driven = ap calls_of (whole.log ∙ ap (λ l. l ++ whole.more) log) ∙ whole.calls
+      pub calls_driven : calls_of last.log ≡ map second (answered_calls es rs (replicate SESSIONS None))
+      calls_driven = ap calls_of (whole.log ∙ ap (λ l. l ++ whole.more) log) ∙ whole.calls
 
-    pub places_driven : EachStands last.log (answered_calls es rs (replicate SESSIONS None))
-    places_driven = whole.stands
+      pub places_driven : EachStands last.log (answered_calls es rs (replicate SESSIONS None))
+      places_driven = whole.stands
+
+      pub taken_driven : AllTaken last.catalog (table_of last.opening) last.log is
+      taken_driven = subst (λ js. AllTaken last.catalog (table_of last.opening) last.log js) (sym h.taken) (images_taken es h.each first last h.handled)
+
+      pub counted_driven : length is ≡ count_by is_taken rs
+      counted_driven = ap (λ (js : List Image). length js) h.taken ∙ images_counted es h.each first last h.handled ∙ sym (ap (λ qs. count_by is_taken qs) h.replied)

@@ -10,13 +10,14 @@ use Rattle.commitlog.specs.Histories.{phase_of}
 use Rattle.steps.specs.Checkpointing.{CapturesAs}
 use Rattle.steps.specs.CoreViews.{CheckpointView, CoreView}
 use Rattle.steps.specs.Refusals.{advance_refusal, is_held, is_log_full, is_rest, is_scanning, refused_unless}
-use Rattle.steps.specs.Schedules.{AbandonsAs, AdvancesAs, BeginsAs, FinishesAs, GivesUpAs, Handles, HandlesAll, StartsAs, StepsAs, VisitsAs}
+use Rattle.steps.specs.Schedules.{AbandonsAs, AdvancesAs, BeginsAs, FinishesAs, GivesUpAs, Handles, HandlesAll, StartsAs, StepsAs, VisitsAs, replies_in}
 use Rattle.steps.specs.Visits.{ScansWhole, any_enters, enters, visits}
 use Rattle.steps.specs.declared.captures.Captured.{Captured}
 use Rattle.steps.specs.declared.captures.Captured.TheVariants.{Slot, Done}
 use Rattle.steps.specs.declared.errors.AdvanceError.TheVariants as advancing
 use Rattle.steps.specs.declared.schedules.Event.{Event}
 use Rattle.steps.specs.declared.schedules.Event.TheVariants as event
+use Rattle.steps.specs.declared.schedules.Handled.{Handled}
 use Rattle.steps.specs.declared.schedules.Reply.{Reply}
 use Rattle.steps.specs.declared.schedules.Reply.TheVariants as reply
 use Rattle.steps.proofs.log.DrivenLog.{open_finish, open_step}
@@ -90,18 +91,18 @@ module _ {A : Type 0} where
   by_finish old new s (Ok x) h = let there = open_finish old s h.refusal in same_checkpoint old new (h.finished there.0 there.1).same.checkpoint
   by_finish old new s (Err e) h = nothing old new h.refused
 
-  one : (e : Event A) (old new : CoreView) (r : Reply A) → Handles e old new r → enters r ≡ false → Moves old new (visits (r ∷ []))
-  one (event.Begin s n p args) old new r (x, is, h) f = subst (λ (y : Reply A). Moves old new (visits (y ∷ []))) (sym is) (by_begin old new s n p _ x h)
-  one (event.Step s) old new r (x, is, h) f = subst (λ (y : Reply A). Moves old new (visits (y ∷ []))) (sym is) (by_step old new s x h)
-  one (event.Finish s) old new r (x, is, h) f = subst (λ (y : Reply A). Moves old new (visits (y ∷ []))) (sym is) (by_finish old new s x h)
-  one (event.GiveUp s) old new r (x, is, h) f = subst (λ (y : Reply A). Moves old new (visits (y ∷ []))) (sym is) (by_give_up old new s x h)
-  one (event.Start k) old new r (x, is, h) f = subst (λ (y : Reply A). Moves old new (visits (y ∷ []))) (sym is) (by_start old new k x h (sym (ap enters is) ∙ f))
-  one event.Advance old new r (x, is, h) f = subst (λ (y : Reply A). Moves old new (visits (y ∷ []))) (sym is) (by_advance old new x h (sym (ap enters is) ∙ f))
-  one event.Capture old new r (x, is, h) f = subst (λ (y : Reply A). Moves old new (visits (y ∷ []))) (sym is) (by_capture A old new x h)
+  one : (e : Event A) (old new : CoreView) (r : Handled A) → Handles e old new r → enters r.reply ≡ false → Moves old new (visits (r.reply ∷ []))
+  one (event.Begin s n p args) old new r (x, is, h) f = subst (λ (y : Handled A). Moves old new (visits (y.reply ∷ []))) (sym is) (by_begin old new s n p _ x h)
+  one (event.Step s) old new r (x, is, h) f = subst (λ (y : Handled A). Moves old new (visits (y.reply ∷ []))) (sym is) (by_step old new s x h)
+  one (event.Finish s) old new r (x, is, h) f = subst (λ (y : Handled A). Moves old new (visits (y.reply ∷ []))) (sym is) (by_finish old new s x h)
+  one (event.GiveUp s) old new r (x, is, h) f = subst (λ (y : Handled A). Moves old new (visits (y.reply ∷ []))) (sym is) (by_give_up old new s x h)
+  one (event.Start k) old new r (x, is, h) f = subst (λ (y : Handled A). Moves old new (visits (y.reply ∷ []))) (sym is) (by_start old new k x h (sym (ap (λ (y : Handled A). enters y.reply) is) ∙ f))
+  one event.Advance old new r (x, is, h) f = subst (λ (y : Handled A). Moves old new (visits (y.reply ∷ []))) (sym is) (by_advance old new x h (sym (ap (λ (y : Handled A). enters y.reply) is) ∙ f))
+  one event.Capture old new r (x, is, h) f = subst (λ (y : Handled A). Moves old new (visits (y.reply ∷ []))) (sym is) (by_capture A old new x h)
   one event.TakeImage old new r (x, is, h) f =
-      subst (λ (y : Reply A). Moves old new (visits (y ∷ []))) (sym is) (stays old new (ap (λ (v : CoreView). v.checkpoint.cursor) h.taken) (ap (λ (v : CoreView). v.checkpoint.bound) h.taken))
-  one event.Reclaim old new r (x, is, h) f = subst (λ (y : Reply A). Moves old new (visits (y ∷ []))) (sym is) (same_checkpoint old new (ap (λ (v : CoreView). v.checkpoint) h.reclaimed.rest))
-  one event.Abandon old new r (x, is, h) f = subst (λ (y : Reply A). Moves old new (visits (y ∷ []))) (sym is) (by_abandon old new x h (sym (ap enters is) ∙ f))
+      subst (λ (y : Handled A). Moves old new (visits (y.reply ∷ []))) (sym is) (stays old new (ap (λ (v : CoreView). v.checkpoint.cursor) h.taken) (ap (λ (v : CoreView). v.checkpoint.bound) h.taken))
+  one event.Reclaim old new r (x, is, h) f = subst (λ (y : Handled A). Moves old new (visits (y.reply ∷ []))) (sym is) (same_checkpoint old new (ap (λ (v : CoreView). v.checkpoint) h.reclaimed.rest))
+  one event.Abandon old new r (x, is, h) f = subst (λ (y : Handled A). Moves old new (visits (y.reply ∷ []))) (sym is) (by_abandon old new x h (sym (ap (λ (y : Handled A). enters y.reply) is) ∙ f))
 
   -- ALL OF THEM
 
@@ -115,17 +116,19 @@ module _ {A : Type 0} where
   first_more (reply.GiveUp r) rs = omega arith
   first_more (reply.Start r) rs = omega arith
   first_more (reply.Advance r) rs = omega arith
-  first_more (reply.TakeImage i) rs = omega arith
+  first_more (reply.TakeImage took) rs = omega arith
   first_more (reply.Reclaim key) rs = omega arith
   first_more (reply.Abandon r) rs = omega arith
 
-  all : (es : List (Event A)) (rs : List (Reply A)) (old new : CoreView) → HandlesAll es old new rs → any_enters rs ≡ false → Moves old new (visits rs)
+  all : (es : List (Event A)) (hs : List (Handled A)) (old new : CoreView) → HandlesAll es old new hs → any_enters (replies_in hs) ≡ false → Moves old new (visits (replies_in hs))
   all [] [] old new h f = nothing old new (sym h)
-  all [] (r ∷ rs) old new h f = absurd h
+  all [] (x ∷ hs) old new h f = absurd h
   all (e ∷ es) [] old new h f = absurd h
-  all (e ∷ es) (r ∷ rs) old new (between, h, more) f =
+  all (e ∷ es) (x ∷ hs) old new (between, h, more) f =
+      let r : Reply A = x.reply in
+      let rs : List (Reply A) = replies_in hs in
       let parts = neither (enters r) (any_enters rs) f in
-      on old between new (visits (r ∷ [])) (visits rs) (visits (r ∷ rs)) (first_more r rs) (one e old between r h parts.0) (all es rs between new more parts.1)
+      on old between new (visits (r ∷ [])) (visits rs) (visits (r ∷ rs)) (first_more r rs) (one e old between x h parts.0) (all es hs between new more parts.1)
 
 -- A SCAN THAT ENDS
 
@@ -150,8 +153,8 @@ scanned v e is =
     ∙ scanned_by (not (is_rest (phase_of v.log))) (not (is_held (phase_of v.log) v.calls)) (is_scanning (phase_of v.log) v.checkpoint) (not (is_log_full v)) e
 
 pub scans_whole : (A : Type 0) → ScansWhole A
-scans_whole A es rs before first last after entered handled none ended =
-    let moves = all es rs first last handled none in
+scans_whole A es hs before first last after entered handled none ended =
+    let moves = all es hs first last handled none in
     let zero : first.checkpoint.cursor ≡ 0 = ap (λ (v : CoreView). v.checkpoint.cursor) entered.advanced.2 in
     let begun : first.checkpoint.cursor ≤ first.checkpoint.bound = omega (arith, zero) in
     let past = ltb-false last.checkpoint.cursor last.checkpoint.bound (scanned last ended.refusal (before_complete (phase_of last.log) ended.phase)) in

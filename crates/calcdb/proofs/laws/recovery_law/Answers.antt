@@ -18,6 +18,6 @@ returns-clause-history g c = λ v h catalog named. record {
 }
 
 pub returns-clause-images : goal.returns-clause-images
-returns-clause-images g c = λ first events replies handled.
+returns-clause-images g c = λ first events each handled.
     let core = c.args.core.now in
-    taken_are_images core.catalog (table_of core.opening) core.log (images_in replies) (images_taken events replies first core handled)
+    taken_are_images core.catalog (table_of core.opening) core.log (images_in each) (images_taken events each first core handled)

@@ -1,5 +1,12 @@
-use Rattle.calcdb.proofs.Carrying.{one}
+use Rattle.calcdb.proofs.Carrying.{one, one_image, one_reply}
 use Rattle.calcdb.proofs.run.handle.Goals as goal
 
-pub returns : goal.returns
-returns g c = one c.args.event c.args.core.now c.handle.new.self c.handle.result c.handle.ensures
+pub returns-in-Some : goal.returns-in-Some
+returns-in-Some g c =
+    let x = c.handle-reply in
+    one_image c.args.event c.args.core.now x.new.self x.result c.in-Some.image c.in-Some.is (one c.args.event c.args.core.now x.new.self x.result x.ensures)
+
+pub returns-in-None : goal.returns-in-None
+returns-in-None g c =
+    let x = c.handle-reply in
+    one_reply c.args.event c.args.core.now x.new.self x.result c.in-None.is (one c.args.event c.args.core.now x.new.self x.result x.ensures)

@@ -1,6 +1,5 @@
-use Rattle.std.proofs.Common.{refl}
+use Rattle.std.proofs.Common.{[], refl}
 use Rattle.steps.specs.declared.schedules.Event.TheVariants as event
-use Rattle.steps.specs.Schedules.{image_in}
 use Rattle.calcdb.specs.Runs.{reply_text}
 use Rattle.calcdb.proofs.Carrying.{call_begun, call_refused}
 use Rattle.calcdb.proofs.run.run_call.Goals as goal
@@ -10,7 +9,7 @@ returns-in-Ok g c =
     let n = c.args.call in
     let h = c.begin.ensures in
     call_begun c.args.core.now.catalog n (event.Begin n.session n.number n.procedure c.into_values.result) c.args.core.now c.begin.new.self c.go_on.new.core c.begin.result c.count_of-count.result
-    (reply_text c.go_on.result) (image_in c.go_on.result)
+    (reply_text c.go_on.result) []
     (refl, refl, refl, c.into_values.ensures) (c.begin.result, refl, record { begun = h.begun; refused = h.refused; refusal = h.refusal }) c.in-Ok.is c.count_of-count.ensures c.go_on.ensures
 
 pub returns-in-Err : goal.returns-in-Err
