@@ -6,7 +6,7 @@ ghost use Rattle.procedure.specs.Runs.{at_start};
 ghost use Rattle.procedure.specs.declared.limits.TheConstants.{SESSIONS};
 ghost use Rattle.commitlog.specs.Histories.{code_of, last_number, phase_of};
 ghost use Rattle.steps.specs.inside.CoreFields.{underway};
-ghost use Rattle.steps.specs.CoreViews.{with_call};
+ghost use Rattle.steps.specs.CoreViews.{open_at, with_call};
 ghost use Rattle.steps.specs.Refusals.{Answers, all_fit, begin_refusal};
 ghost use Rattle.steps.specs.declared.errors.BeginError.TheVariants as refused;
 
@@ -147,6 +147,7 @@ impl<A: Allocator + Clone> Core<A> {
         args: Vec<Vec<u8, A>, A>,
     ) -> Result<(), BeginError>
         ensures begun { OnOk result (self.new ≡ with_call self.old session (Some (record { number = number; procedure = procedure; args = map (λ b. b.items) args.items; start = phase_of self.old.log; count = 0 }))) }
+        ensures open { OnOk result (open_at self.new session ≡ Some (record { number = number; procedure = procedure; args = map (λ b. b.items) args.items; start = phase_of self.old.log; count = 0 })) }
         ensures refused { OnErr result (self.new ≡ self.old) }
         ensures refusal { Answers (begin_refusal self.old session number procedure (map (λ b. b.items) args.items)) refused.NoMemory result }
     {

@@ -3,6 +3,7 @@
 ghost use Rattle.std.specs.Prelude.{◌≡◌, ◌≤◌, length, true};
 ghost use Rattle.commitlog.specs.Histories.{IsCyclic, IsLegal, IsOrderly, phase_of};
 ghost use Rattle.commitlog.specs.declared.limits.TheConstants.{LOG_RECORDS};
+ghost use Rattle.procedure.specs.declared.limits.TheConstants.{SESSIONS};
 ghost use Rattle.image.specs.Merges.{table_of};
 ghost use Rattle.image.specs.Openings.{is_opening};
 ghost use Rattle.steps.specs.CoreViews.{IsSmall};
@@ -53,7 +54,8 @@ impl<A: Allocator> Model for Core<A> {
 impl<A: Allocator> Core<A> {
     /// The phase of the running checkpoint, or rest.
     pub fn phase(&self) -> Phase
-        ensures { result ≡ phase_of self.now.log }
+        ensures value { result ≡ phase_of self.now.log }
+        ensures sessions { length self.now.calls ≡ SESSIONS }
     {
         self.phase
     }
@@ -63,6 +65,7 @@ impl<A: Allocator> Core<A> {
     pub fn records(&self) -> &[Record<A>]
         ensures value { result.now ≡ self.now.log }
         ensures most { length self.now.log ≤ LOG_RECORDS }
+        ensures sessions { length self.now.calls ≡ SESSIONS }
         ensures legal { IsLegal self.now.catalog (table_of self.now.opening) self.now.log }
         ensures orderly { IsOrderly self.now.log }
         ensures cyclic { IsCyclic self.now.log }

@@ -1,6 +1,6 @@
 -- What a core's fields say, by the machine's state for which they stand.
-use Rattle.std.proofs.Common.{Bool, ◌≡◌, ℕ, ◌<◌, cond, List, [], length, map, reverse, Option, Some, None, slice_get, slice_set, slice_index_or, Vec, inl, inr, refl, sym, ap, ◌∙◌, subst, length-set, get_or-set_other}
-use Rattle.std.proofs.lemmas.List.{map-set, get_or-set_same}
+use Rattle.std.proofs.Common.{Bool, ◌≡◌, ℕ, ◌<◌, cond, List, [], length, map, reverse, Option, Some, None, option_map, slice_get, slice_set, slice_index_or, Vec, inl, inr, refl, sym, ap, ◌∙◌, subst, length-set, get_or-set_other}
+use Rattle.std.proofs.lemmas.List.{length-map, map-set, get_or-set_same}
 use Rattle.std.proofs.lemmas.Bool.{cases_eq, ne_eqb, eq-eqb}
 use Rattle.procedure.specs.Bytes.{Bytes, Cell}
 use Rattle.procedure.specs.Table.{Changes}
@@ -20,8 +20,8 @@ use Rattle.steps.proofs.log.SchedulePromises.{all_schedules}
 use Rattle.image.specs.Merges.{table_of}
 use Rattle.locktable.specs.Locks.{mode_of}
 use Rattle.steps.specs.machine.NewestFirst as back
-use Rattle.steps.specs.inside.CoreFields.{either, IsCore, IsOpen, SameCall, call_at, mode_held, start_of, view_of}
-use Rattle.steps.specs.CoreViews.{table_now}
+use Rattle.steps.specs.inside.CoreFields.{either, IsCore, IsOpen, SameCall, call_at, mode_held, start_of, underway, view_of}
+use Rattle.steps.specs.CoreViews.{CoreView, table_now}
 use Rattle.steps.specs.inside.RecordEdits.{first_noted, noted_of}
 use Rattle.steps.specs.machine.Invariant.{Invariant}
 use Rattle.steps.specs.machine.Machine.{Open, State, Runs, initial, Begins, MayBegin, more, now, begin, begun}
@@ -49,6 +49,9 @@ module _ {A : Type 0} where
 
     pub last_is : (s : ℕ) → back.history_last_number s ok.world.log ≡ log.last_number s c.log.records
     last_is s = sym (last_number-reverse s ok.world.log) ∙ ap (log.last_number s) ok.stands.log
+
+    pub sessions_seen : {v : CoreView} → view_of c ≡ v → length v.calls ≡ SESSIONS
+    sessions_seen same = sym (ap (λ (v : CoreView). length v.calls) same) ∙ length-map c.calls.items (option_map underway) ∙ ok.sessions
 
     -- the log is one history
     pub history : IsLegal c.catalog (table_of c.opening) c.log.records × IsOrderly c.log.records × IsCyclic c.log.records

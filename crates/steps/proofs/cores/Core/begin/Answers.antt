@@ -1,5 +1,8 @@
-use Rattle.std.proofs.Common.{◌≡◌, ◌<◌, Some, map, sym, ap, ◌∙◌, subst, slice_set}
+use Rattle.std.proofs.Common.{◌≡◌, ◌<◌, None, Some, map, sym, ap, ◌∙◌, subst, slice_set}
 use Rattle.std.specs.Vec.{with_item}
+use Rattle.std.proofs.lemmas.List.{get_or-set_same}
+use Rattle.steps.specs.CoreViews.{open_at}
+use Rattle.steps.proofs.views.CoreState.{sessions_seen}
 use Rattle.steps.proofs.sessions.AcceptedCalls.{may_begin}
 use Rattle.steps.proofs.sessions.BegunCall.{begun_core, begun_view}
 use Rattle.steps.proofs.cores.Core.begin.Goals as goal
@@ -31,3 +34,10 @@ returns-clause-begun g c =
     (with_item c.self.inside.calls c.from-index.result (Some c.in_ok-call.call)) c.set.new.self
     c.in_ok-call.ensures.call
     (ap (λ i. slice_set c.self.inside.calls.items i (Some c.in_ok-call.call)) at)
+
+pub returns-clause-open : goal.returns-clause-open
+returns-clause-open g c =
+    let may = may_begin c.args.self.now c.args.session c.args.number c.args.procedure (map (λ b. b.items) c.args.args.items) c.in_ok-call.ensures.refusal in
+    let many = sessions_seen c.self.inside c.self.invariant c.self.view_is in
+    ap (λ v. open_at v c.args.session) (returns-clause-begun g c)
+    ∙ get_or-set_same c.args.self.now.calls c.args.session _ None (subst (λ n. c.args.session < n) (sym many) may.session)
