@@ -1,5 +1,5 @@
 -- The table of a text of pairs, line by line, and texts of which a front was read.
-use Rattle.std.proofs.Common.{◌≡◌, ◌≤◌, ◌<◌, ℕ, ◌+◌, Bool, true, false, cond, nat_lt, nat_le, List, [], ◌∷◌, ◌++◌, length, Option, Some, None, Result, Ok, Err, refl, sym, ap, subst, ◌∙◌, arith}
+use Rattle.std.proofs.Common.{◌≡◌, ◌⊎◌, inl, inr, ◌≤◌, ◌<◌, ℕ, ◌+◌, Bool, true, false, cond, nat_lt, nat_le, List, [], ◌∷◌, ◌++◌, length, Option, Some, None, Result, Ok, Err, refl, sym, ap, subst, ◌∙◌, arith}
 use Rattle.std.specs.Prelude.{◌&&◌, if◌then◌else◌, is_none}
 use Rattle.std.specs.FinMap as map
 use Rattle.std.specs.FinMap.{contains_key, insert, len, len-empty, len-insert}
@@ -9,12 +9,15 @@ use Rattle.std.proofs.lemmas.Bool.{leb-true, leb-false, lt-leb, ltb-true}
 use Rattle.std.proofs.lemmas.List.{append-nil, length-append}
 use Rattle.procedure.specs.Bytes.{Bytes}
 use Rattle.procedure.specs.Table.{Table, value_at}
+use Rattle.image.specs.Images.{Image}
 use Rattle.image.specs.declared.limits.TheConstants.{ENTRIES}
 use Rattle.calcdb.specs.Lines.{all_pass, is_allowed, is_skipped, left_lines, words}
-use Rattle.calcdb.specs.Pairs.{table_after_line, table_after_words, image_of_pairs, loaded, pair_of, table_after_lines, table_of_pairs, with_pair}
+use Rattle.calcdb.specs.Pairs.{table_after_line, table_after_words, IsLoadFault, image_of_pairs, loaded, pair_of, table_after_lines, table_of_pairs, with_pair}
+use Rattle.calcdb.specs.Outcomes.{HasLine}
 use Rattle.calcdb.specs.Reads.{◌>>=◌}
+use Rattle.calcdb.specs.Refusing.{text_fault}
 use Rattle.calcdb.specs.declared.scripts.ScriptFault.{ScriptFault}
-use Rattle.calcdb.specs.declared.scripts.ScriptFault.TheVariants.{Line}
+use Rattle.calcdb.specs.declared.scripts.ScriptFault.TheVariants.{Line, NoMemory, Size}
 use Rattle.calcdb.specs.declared.scripts.TheConstants.{SCRIPT_BYTES}
 
 pub nothing_left : (t : Table) (n : ℕ) (o : Option Bytes) → o ≡ None → table_after_lines t n (left_lines o) ≡ Ok t
@@ -101,3 +104,17 @@ same_table (Some xs) (Some ys) source text is h at_end =
 
 pub same_image : (old new : Option Bytes) (source text : Bytes) → old ≡ Some source → Consumes old new text → (length text ≤ SCRIPT_BYTES → IsAtEnd new) → image_of_pairs source ≡ image_of_pairs text
 same_image old new source text is h at_end = ap loaded (same_table old new source text is h at_end)
+
+-- ---- the fault of a text
+
+pub text_has_line : (f : ScriptFault) → HasLine (text_fault f)
+text_has_line (Line n) = tt
+text_has_line Size = tt
+text_has_line NoMemory = tt
+
+pub load_fault : (says : Result Image ScriptFault) (f : ScriptFault) → (f ≡ NoMemory) ⊎ (says ≡ Err f) → IsLoadFault says (text_fault f)
+load_fault says (Line n) (inl is) = absurd (cc)
+load_fault says (Line n) (inr is) = is
+load_fault says Size (inl is) = absurd (cc)
+load_fault says Size (inr is) = is
+load_fault says NoMemory h = refl

@@ -1,19 +1,16 @@
 //! Texts of pairs, which are loaded as opening images.
 
-ghost use Rattle.std.specs.Prelude.{◌≡◌, ◌⊎◌, ◌<◌, ◌≤◌, ◌+◌, Err, IfErr, IfOk, IfSome, Ok, Some, length, option_map, Result};
+ghost use Rattle.std.specs.Prelude.{◌≡◌, ◌⊎◌, ◌<◌, ◌≤◌, ◌+◌, Err, IfErr, IfOk, IfSome, Ok, Some, length, option_map};
 ghost use Rattle.std.specs.FinMap as map;
 ghost use Rattle.std.specs.Io.KnownBytes.{Appends};
 ghost use Rattle.procedure.specs.Bytes.{Bytes};
-ghost use Rattle.image.specs.Images.{Image as SpecImage};
 ghost use Rattle.image.specs.declared.limits.TheConstants.{ENTRIES};
 ghost use Rattle.calcdb.specs.Lines.{left_lines, lines, words};
-ghost use Rattle.calcdb.specs.Outcomes.{HasLine};
 ghost use Rattle.calcdb.specs.Output.{header_line};
 ghost use Rattle.calcdb.specs.Pairs as spec;
-ghost use Rattle.calcdb.specs.Pairs.{EndsLoad, IsLoadFault, image_of_pairs};
+ghost use Rattle.calcdb.specs.Pairs.{EndsLoad, image_of_pairs};
 ghost use Rattle.calcdb.specs.Reads.{ReadsAs};
 ghost use Rattle.calcdb.specs.Scripts.{TellsScript};
-ghost use Rattle.calcdb.specs.declared.scripts.ScriptFault.{ScriptFault as SpecFault};
 ghost use Rattle.calcdb.specs.declared.scripts.ScriptFault.TheVariants as script_fault;
 
 use crate::faults::refusals::{refuse, write_header};
@@ -159,18 +156,6 @@ fn read_image<A: Allocator + Copy>(alloc: A, text: &[u8]) -> Result<Image<A>, Sc
     }
 }
 
-/// The fault of a text, in the words of the program.
-fn fault_of_text(fault: ScriptFault) -> Fault
-    ensures fault { (says : Result SpecImage SpecFault) → (fault ≡ script_fault.NoMemory) ⊎ (says ≡ Err fault) → IsLoadFault says result }
-    ensures has_line { HasLine result }
-{
-    match fault {
-        ScriptFault::Line(number) => Fault::Line(number),
-        ScriptFault::Size => Fault::Size,
-        ScriptFault::NoMemory => Fault::Refused(Reason::NoMemory),
-    }
-}
-
 /// Loads the pairs of a text.
 fn load_text<W: Write, A: Allocator + Copy>(
     alloc: A,
@@ -182,7 +167,7 @@ fn load_text<W: Write, A: Allocator + Copy>(
 {
     let image = match read_image(alloc, text) {
         Ok(image) => image,
-        Err(fault) => return Err(refuse(alloc, writer, fault_of_text(fault))),
+        Err(fault) => return Err(refuse(alloc, writer, Fault::from(fault))),
     };
     match write_header(alloc, writer, &image) {
         Ok(()) => Ok(image),

@@ -1,9 +1,11 @@
-use Rattle.std.proofs.Common.{◌≡◌, refl}
+use Rattle.std.proofs.Common.{◌≡◌, refl, subst, sym}
 use Rattle.procedure.specs.Bytes.{Bytes}
 use Rattle.calcdb.proofs.Declined.{declined, fails_wider}
+use Rattle.calcdb.specs.Outcomes.{HasLine}
 use Rattle.calcdb.specs.Output.{header_line}
 use Rattle.calcdb.specs.Pairs.{IsLoadFault, IsLoadHeader, image_of_pairs}
-use Rattle.calcdb.specs.Refusing.{no_memory}
+use Rattle.calcdb.specs.Refusing.{no_memory, text_fault}
+use Rattle.calcdb.proofs.Loading.{load_fault, text_has_line}
 use Rattle.calcdb.proofs.pairs.load_text.Goals as goal
 
 pub returns-in-Err-write_header-clause-err : goal.returns-in-Err-write_header-clause-err
@@ -16,5 +18,6 @@ returns-in-Err-write_header-clause-err g c =
 pub returns-in-Err-clause-err : goal.returns-in-Err-clause-err
 returns-in-Err-clause-err g c =
     let says = image_of_pairs c.args.text.now in
-    declined (IsLoadFault says) (IsLoadHeader says) (g.W.Write.contents c.args.writer.now) (g.W.Write.contents c.refuse.new.writer) c.fault_of_text.result c.refuse.result
-    c.fault_of_text.ensures.has_line (c.fault_of_text.ensures.fault says c.in-Err.ensures) refl c.refuse.ensures
+    let is : c.from.result ≡ text_fault c.in-Err.fault = c.from.ensures in
+    declined (IsLoadFault says) (IsLoadHeader says) (g.W.Write.contents c.args.writer.now) (g.W.Write.contents c.refuse.new.writer) c.from.result c.refuse.result
+    (subst HasLine (sym is) (text_has_line c.in-Err.fault)) (subst (IsLoadFault says) (sym is) (load_fault says c.in-Err.fault c.in-Err.ensures)) refl c.refuse.ensures
