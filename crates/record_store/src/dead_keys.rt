@@ -1,6 +1,6 @@
 //! The least of the keys that dead records offer for reclaim.
 
-ghost use Rattle.std.specs.Prelude.{◌≡◌, ℕ, ◌+◌, ◌<◌, ◌≤◌, ◌↔◌, [], length, OnOk, OnErr, IfSome, IfNone, IsSome, IsTrue, None, Some, slice_set, ◌++◌, replicate, ◌-◌, ◌^◌};
+ghost use Rattle.std.specs.Prelude.{◌≡◌, ℕ, ◌+◌, ◌<◌, ◌≤◌, ◌↔◌, [], length, OnOk, OnErr, IfSome, IfNone, IsSome, IsTrue, IsOk, None, Some, max, slice_set, ◌++◌, replicate, ◌-◌, ◌^◌};
 ghost use Rattle.record_store.specs.DeadKeys.{IsEnlarged, IsLeast, IsMoved, IsPut, IsWonBut, IsWonFrom, Refills, SameFrom, SameOffers, candidate_of, match_at, node_at, offer_at, winner};
 
 use procedure::{Key, NoMemory};
@@ -196,7 +196,8 @@ fn enlarge<A: Allocator>(
 /// be so many.
 fn places_for(slot: usize, slots: usize) -> Option<usize>
     requires { slots + slots < 2 ^ 64 }
-    ensures { IfSome result (λ n. (slot < n) × (slots + slots ≤ n) × (n + n < 2 ^ 64)) }
+    ensures some { IfSome result (λ n. (n ≡ max (slot + 1) (slots + slots)) × (n + n < 2 ^ 64)) }
+    ensures none { IfNone result (2 ^ 63 ≤ max (slot + 1) (slots + slots)) }
 {
     let wanted = cmp::max(slot.checked_add(1)?, slots + slots);
     wanted.checked_mul(2)?;
@@ -220,6 +221,10 @@ impl<A: Allocator> DeadKeys<A> {
         ensures fits { OnOk result (slot + 1 < 2 ^ 64) }
         ensures no_less { length self.old ≤ length self.new }
         ensures kept { SameOffers self.old self.new }
+        // Where the place is there no memory is taken; else their number doubles, or more where that isn't enough.
+        ensures memory { slot < length self.old → IsOk result }
+        ensures same { slot < length self.old → length self.new ≡ length self.old }
+        ensures grown { length self.old ≤ slot → OnOk result (length self.new ≡ max (slot + 1) (length self.old + length self.old)) }
     {
         if slot < self.slots {
             return Ok(());
