@@ -1,6 +1,6 @@
 -- What a text says as a log: its version, its header, the records that stand whole at its front, and what stands after
 -- them. Each text has one reading.
-use Rattle.std.specs.Prelude.{◌≡◌, ◌≢◌, ◌⊎◌, ◌≤◌, ◌<◌, ◌+◌, ℕ, List, [], ◌++◌, length, take, drop, Result, Ok, Err}
+use Rattle.std.specs.Prelude.{◌≡◌, ◌≢◌, ◌⊎◌, ◌≤◌, ◌<◌, ◌+◌, ℕ, List, [], ◌∷◌, ◌++◌, length, take, drop, Result, Ok, Err}
 use Rattle.std.specs.List.{AllByRecursion}
 use Rattle.byteorder.specs.Endian.{big_number}
 use Rattle.sha2.specs.Sha256.{sha256}
@@ -10,6 +10,8 @@ use Rattle.commitlog.specs.LogBytes.{Fits, body, digest_after, first_digest, gre
 use Rattle.commitlog.specs.declared.limits.TheConstants.{LOG_RECORDS, HEADER_BYTES}
 use Rattle.commitlog.specs.declared.formats.Version.{Version}
 use Rattle.commitlog.specs.declared.formats.LogHeader.{LogHeader}
+use Rattle.commitlog.specs.declared.bodies.BodyError.{BodyError}
+use Rattle.commitlog.specs.declared.bodies.BodyError.TheVariants as body_error
 use Rattle.commitlog.specs.declared.decoding.Front.{Front}
 use Rattle.commitlog.specs.declared.decoding.Front.TheVariants as front
 use Rattle.commitlog.specs.declared.decoding.StoredLog.{StoredLog}
@@ -58,6 +60,23 @@ IsForeign v d rest = IsNoRecord v d (stated_body rest) (stated_digest rest)
 -- a length over the greatest, or a whole record that is none behind the digest d, or whose place i is past the last
 abbrev pub IsDamage : Version → Bytes → ℕ → Bytes → Type 0
 IsDamage v d i rest = (4 ≤ length rest) × ((greatest_body v < stated_length rest) ⊎ (IsWhole rest × (IsForeign v d rest ⊎ (i ≡ LOG_RECORDS))))
+
+-- the digest is another behind the digest d
+abbrev pub HasOtherDigest : Bytes → Bytes → Type 0
+HasOtherDigest d rest = stated_digest rest ≢ sha256 (d ++ stated_body rest)
+
+-- damage that takes no memory to see
+abbrev pub IsPlainDamage : Version → Bytes → ℕ → Bytes → Type 0
+IsPlainDamage v d i rest = (4 ≤ length rest) × ((greatest_body v < stated_length rest) ⊎ (IsWhole rest × (HasOtherDigest d rest ⊎ (i ≡ LOG_RECORDS))))
+
+-- the body begins as that of a call
+abbrev pub IsOfCall : Bytes → Type 0
+IsOfCall text = take 1 text ≡ 1 ∷ []
+
+-- why a body gives no record at a place, as a refusal of the log
+abbrev pub refused_at : BodyError → ℕ → LogError
+refused_at body_error.Malformed i = refused.Damaged i
+refused_at body_error.NoMemory i = refused.NoMemory
 
 abbrev pub Ends : Version → Bytes → Ending → Type 0
 Ends v rest Clean = rest ≡ []

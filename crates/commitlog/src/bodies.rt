@@ -1,10 +1,10 @@
 //! The body of a record, read from its bytes.
 
-ghost use Rattle.std.specs.Prelude.{◌≡◌, ◌↔◌, Err, IfOk, IfSome, IsSome};
+ghost use Rattle.std.specs.Prelude.{◌≡◌, ◌↔◌, ◌==◌, Err, IfErr, IfOk, IsOk, None, Some, if◌then◌else◌, length};
 ghost use Rattle.commitlog.specs.Records.{IsInRange, record_of};
 ghost use Rattle.commitlog.specs.LogBytes.{Fits, body, greatest_value};
 ghost use Rattle.commitlog.specs.BodyReading.{Gives, arguments_in, byte_in, call_in, many, number_in, phase_in, record_in, replies_in, reply_in, token_in, value_in};
-ghost use Rattle.commitlog.specs.LogReadings.{IsNoBody};
+ghost use Rattle.commitlog.specs.LogReadings.{IsNoBody, IsOfCall};
 ghost use Rattle.commitlog.specs.declared.bodies.BodyError.TheVariants as errors;
 
 use crate::formats::Version;
@@ -45,7 +45,8 @@ impl<T: Drop> From<AllocFailed<T>> for BodyError {
 }
 
 fn byte_of(bytes: &[u8]) -> Result<(u8, &[u8]), BodyError>
-    ensures { Gives (λ x. (x.0, x.1.now)) result (byte_in bytes.now) }
+    ensures value { Gives (λ x. (x.0, x.1.now)) result (byte_in bytes.now) }
+    ensures malformed { IfErr result (λ e. e ≡ errors.Malformed) }
 {
     match bytes {
         [] => Err(BodyError::Malformed),
@@ -54,7 +55,8 @@ fn byte_of(bytes: &[u8]) -> Result<(u8, &[u8]), BodyError>
 }
 
 fn u16_of(bytes: &[u8]) -> Result<(u16, &[u8]), BodyError>
-    ensures { Gives (λ x. (x.0, x.1.now)) result (number_in 2 bytes.now) }
+    ensures value { Gives (λ x. (x.0, x.1.now)) result (number_in 2 bytes.now) }
+    ensures malformed { IfErr result (λ e. e ≡ errors.Malformed) }
 {
     if bytes.len() < 2 {
         return Err(BodyError::Malformed);
@@ -63,7 +65,8 @@ fn u16_of(bytes: &[u8]) -> Result<(u16, &[u8]), BodyError>
 }
 
 fn u64_of(bytes: &[u8]) -> Result<(u64, &[u8]), BodyError>
-    ensures { Gives (λ x. (x.0, x.1.now)) result (number_in 8 bytes.now) }
+    ensures value { Gives (λ x. (x.0, x.1.now)) result (number_in 8 bytes.now) }
+    ensures malformed { IfErr result (λ e. e ≡ errors.Malformed) }
 {
     if bytes.len() < 8 {
         return Err(BodyError::Malformed);
@@ -77,7 +80,8 @@ fn value_of<'a, A: Allocator + Clone>(
     version: Version,
     bytes: &'a [u8],
 ) -> Result<(Value<A>, &'a [u8]), BodyError>
-    ensures { Gives (λ x. (x.0, x.1.now)) result (value_in (greatest_value version) bytes.now) }
+    ensures value { Gives (λ x. (x.0, x.1.now)) result (value_in (greatest_value version) bytes.now) }
+    ensures malformed { value_in (greatest_value version) bytes.now ≡ None → result ≡ Err errors.Malformed }
 {
     let (length, rest) = u16_of(bytes)?;
     let length = usize::from(length);
@@ -97,7 +101,8 @@ fn reply_of<'a, A: Allocator + Clone>(
     version: Version,
     bytes: &'a [u8],
 ) -> Result<(Option<Value<A>>, &'a [u8]), BodyError>
-    ensures { Gives (λ x. (x.0, x.1.now)) result (reply_in (greatest_value version) bytes.now) }
+    ensures value { Gives (λ x. (x.0, x.1.now)) result (reply_in (greatest_value version) bytes.now) }
+    ensures malformed { reply_in (greatest_value version) bytes.now ≡ None → result ≡ Err errors.Malformed }
 {
     match bytes {
         [0, rest @ ..] => Ok((None, rest)),
@@ -172,7 +177,8 @@ fn replies_of<'a, A: Allocator + Clone>(
 }
 
 fn phase_of(code: u8) -> Result<Phase, BodyError>
-    ensures { Gives (λ p. p) result (phase_in code) }
+    ensures value { Gives (λ p. p) result (phase_in code) }
+    ensures malformed { IfErr result (λ e. e ≡ errors.Malformed) }
 {
     match code {
         0 => Ok(Phase::Rest),
@@ -184,17 +190,26 @@ fn phase_of(code: u8) -> Result<Phase, BodyError>
     }
 }
 
+/// What was read, where nothing stands after it.
+fn ended<A: Allocator>(entry: Entry<A>, rest: &[u8]) -> Result<Entry<A>, BodyError>
+    ensures value { Gives record_of result (if length rest.now == 0 then Some (record_of entry) else None) }
+    ensures malformed { IfErr result (λ e. e ≡ errors.Malformed) }
+{
+    if !rest.is_empty() {
+        return Err(BodyError::Malformed);
+    }
+    Ok(entry)
+}
+
 #[tactic(auto, unfolding(crate::specs::BodyReading::token_in))]
 fn token_of<A: Allocator>(bytes: &[u8]) -> Result<Entry<A>, BodyError>
-    ensures { Gives record_of result (token_in bytes.now) }
+    ensures value { Gives record_of result (token_in bytes.now) }
+    ensures malformed { IfErr result (λ e. e ≡ errors.Malformed) }
 {
     let (code, rest) = byte_of(bytes)?;
     let phase = phase_of(code)?;
     let (number, rest) = u64_of(rest)?;
-    if !rest.is_empty() {
-        return Err(BodyError::Malformed);
-    }
-    Ok(Entry::Token { phase, number })
+    ended(Entry::Token { phase, number }, rest)
 }
 
 #[tactic(auto, unfolding(crate::specs::BodyReading::call_in))]
@@ -211,10 +226,7 @@ fn call_of<A: Allocator + Clone>(
     let (args, rest) = arguments_of(alloc, version, rest)?;
     let (outcome, rest) = byte_of(rest)?;
     let (replies, left) = replies_of(alloc, version, rest)?;
-    if !left.is_empty() {
-        return Err(BodyError::Malformed);
-    }
-    Ok(Entry::Call {
+    let entry = Entry::Call {
         call: Call {
             session,
             number,
@@ -223,7 +235,8 @@ fn call_of<A: Allocator + Clone>(
         },
         outcome,
         replies,
-    })
+    };
+    ended(entry, left)
 }
 
 #[tactic(auto, unfolding(crate::specs::BodyReading::record_in))]
@@ -232,7 +245,8 @@ fn entry_of<A: Allocator + Clone>(
     version: Version,
     bytes: &[u8],
 ) -> Result<Entry<A>, BodyError>
-    ensures { Gives record_of result (record_in (greatest_value version) bytes.now) }
+    ensures value { Gives record_of result (record_in (greatest_value version) bytes.now) }
+    ensures memory { result ≡ Err errors.NoMemory → IsOfCall bytes.now }
 {
     match bytes {
         [0, rest @ ..] => token_of(rest),
@@ -241,21 +255,22 @@ fn entry_of<A: Allocator + Clone>(
     }
 }
 
-fn record_of_entry<A: Allocator>(entry: Entry<A>) -> Option<Record<A>>
-    ensures value { IfSome result (λ r. r ≡ record_of entry) }
-    ensures ranges { IsSome result ↔ IsInRange (record_of entry) }
+fn record_of_entry<A: Allocator>(entry: Entry<A>) -> Result<Record<A>, BodyError>
+    ensures value { IfOk result (λ r. r ≡ record_of entry) }
+    ensures ranges { IsOk result ↔ IsInRange (record_of entry) }
+    ensures malformed { IfErr result (λ e. e ≡ errors.Malformed) }
 {
     match entry {
-        Entry::Token { phase, number } => Some(Record::token(phase, number)),
+        Entry::Token { phase, number } => Ok(Record::token(phase, number)),
         Entry::Call {
             call,
             outcome,
             replies,
-        } => Record::call(call, outcome, replies),
+        } => Record::call(call, outcome, replies).ok_or(BodyError::Malformed),
     }
 }
 
-/// The record whose body the bytes are, all of them.
+/// The record whose body the bytes are, all of them. Only a call takes memory.
 pub(crate) fn record_of_body<A: Allocator + Clone>(
     alloc: &A,
     version: Version,
@@ -264,10 +279,8 @@ pub(crate) fn record_of_body<A: Allocator + Clone>(
     ensures value { IfOk result (λ r. body r ≡ bytes.now) }
     ensures fits { IfOk result (λ r. Fits version r) }
     ensures malformed { result ≡ Err errors.Malformed → IsNoBody version bytes.now }
+    ensures memory { result ≡ Err errors.NoMemory → IsOfCall bytes.now }
 {
     let entry = entry_of(alloc, version, bytes)?;
-    match record_of_entry(entry) {
-        Some(made) => Ok(made),
-        None => Err(BodyError::Malformed),
-    }
+    Ok(record_of_entry(entry)?)
 }

@@ -3,7 +3,7 @@
 ghost use Rattle.std.specs.Prelude.{◌≡◌, ◌≤◌, ◌<◌, ◌+◌, ◌++◌, ◌≢◌, ℕ, Err, IfErr, IfNone, IfOk, IfSome, length, take};
 ghost use Rattle.sha2.specs.Sha256.{sha256};
 ghost use Rattle.commitlog.specs.LogBytes.{Fits, body, magic, next_digest, record_bytes};
-ghost use Rattle.commitlog.specs.LogReadings.{Damaged, EndsAfter, IsAnswer, IsForeign, IsFront, IsHeader, IsNext, IsNoRecord, IsReading, IsStop, IsWhole, Log, NotALog, Reading, StopsAfter, Tells, after_record, reading_of, stated_length};
+ghost use Rattle.commitlog.specs.LogReadings.{Damaged, EndsAfter, HasOtherDigest, IsAnswer, IsForeign, IsFront, IsHeader, IsNext, IsNoRecord, IsOfCall, IsPlainDamage, IsReading, IsStop, IsWhole, Log, NotALog, Reading, StopsAfter, Tells, after_record, reading_of, refused_at, stated_body, stated_length};
 ghost use Rattle.commitlog.specs.declared.limits.TheConstants.{LOG_RECORDS};
 ghost use Rattle.commitlog.specs.declared.formats.Version.{Version};
 ghost use Rattle.commitlog.specs.declared.decoding.LogError.TheVariants as refused;
@@ -135,6 +135,8 @@ fn record_behind<A: Allocator + Clone>(
     ensures digest { IfOk result (λ x. x.1 ≡ sha256 (digest.now ++ text.now)) }
     ensures given { IfOk result (λ x. x.1 ≡ given.now) }
     ensures malformed { result ≡ Err errors.Malformed → IsNoRecord version digest.now text.now given.now }
+    ensures other { given.now ≢ sha256 (digest.now ++ text.now) → result ≡ Err errors.Malformed }
+    ensures memory { result ≡ Err errors.NoMemory → IsOfCall text.now }
 {
     let digest = chained_digest(digest, text);
     if digest.as_slice() != given {
@@ -158,6 +160,8 @@ fn whole_record<A: Allocator + Clone>(
     ensures digest { IfOk result (λ x. x.1 ≡ next_digest digest.now x.0) }
     ensures bytes { IfOk result (λ x. bytes.now ≡ record_bytes digest.now x.0 ++ after_record bytes.now) }
     ensures malformed { result ≡ Err errors.Malformed → IsForeign version digest.now bytes.now }
+    ensures other { HasOtherDigest digest.now bytes.now → result ≡ Err errors.Malformed }
+    ensures memory { result ≡ Err errors.NoMemory → IsOfCall (stated_body bytes.now) }
 {
     let (_length, rest) = bytes.split_at(4);
     let (text, rest) = rest.split_at(stated);
@@ -186,6 +190,15 @@ fn entry<A: Allocator>(read: (Record<A>, [u8; 32]), length: usize) -> Next<A>
     }
 }
 
+fn refusal_at(stopped: BodyError, place: usize) -> LogError
+    ensures { result ≡ refused_at stopped place }
+{
+    match stopped {
+        BodyError::Malformed => LogError::Damaged(place),
+        BodyError::NoMemory => LogError::NoMemory,
+    }
+}
+
 /// What comes at this place, after the digest of the record before it.
 fn next_of<A: Allocator + Clone>(
     alloc: &A,
@@ -197,6 +210,8 @@ fn next_of<A: Allocator + Clone>(
     requires { place ≤ LOG_RECORDS }
     ensures next { IfOk result (λ next. IsNext version digest.now place bytes.now next) }
     ensures err { IfErr result (λ e. IsStop version digest.now place bytes.now e) }
+    ensures damaged { IsPlainDamage version digest.now place bytes.now → result ≡ Err (refused.Damaged place) }
+    ensures memory { result ≡ Err refused.NoMemory → IsOfCall (stated_body bytes.now) }
 {
     match front_of(version, bytes) {
         Front::Clean => Ok(Next::End(Ending::Clean)),
@@ -208,8 +223,7 @@ fn next_of<A: Allocator + Clone>(
             }
             match whole_record(alloc, version, digest, bytes, stated) {
                 Ok(read) => Ok(entry(read, 4 + stated + 32)),
-                Err(BodyError::Malformed) => Err(LogError::Damaged(place)),
-                Err(BodyError::NoMemory) => Err(LogError::NoMemory),
+                Err(stopped) => Err(refusal_at(stopped, place)),
             }
         }
     }

@@ -1,11 +1,12 @@
 //! Logs that go to a writer, and come from a reader.
 
 ghost use Rattle.std.specs.Prelude.{◌≡◌, ◌≤◌, ℕ, Err, IfErr, IfOk, Some, OnErr, OnOk, length};
+ghost use Rattle.std.specs.List.{AllByRecursion};
 ghost use Rattle.std.specs.Io.KnownBytes.{Appends, Consumes, IsAtEnd};
 ghost use Rattle.commitlog.specs.declared.limits.TheConstants.{LOG_RECORDS};
 ghost use Rattle.commitlog.specs.declared.formats.Version.TheVariants.{Two};
 ghost use Rattle.procedure.specs.declared.streams.WriteError.TheVariants as write_refused;
-ghost use Rattle.commitlog.specs.LogBytes.{log_bytes, next_digest, record_bytes, records_bytes};
+ghost use Rattle.commitlog.specs.LogBytes.{Fits, log_bytes, next_digest, record_bytes, records_bytes};
 ghost use Rattle.procedure.specs.Bytes.{Bytes};
 ghost use Rattle.commitlog.specs.LogReadings.{Damaged, IsReading, NotALog, Reading, reading_of};
 ghost use Rattle.commitlog.specs.declared.decoding.LogError.TheVariants as refused;
@@ -85,6 +86,8 @@ fn write_out_record<W: Write, A: Allocator>(
     ensures ok { OnOk result (Appends (W.contents writer.old) (W.contents writer.new) (record_bytes digest.now «record».now)) }
     ensures err { OnErr result (IsBegun (W.contents writer.old) (W.contents writer.new) (record_bytes digest.now «record».now)) }
     ensures digest { IfOk result (λ d. d ≡ next_digest digest.now «record».now) }
+    ensures memory { result ≡ Err write_refused.NoMemory → W.contents writer.new ≡ W.contents writer.old }
+    ensures fits { OnOk result (Fits Two «record».now) }
 {
     buffer.clear();
     let digest = write_record(buffer, digest, record)?;
@@ -100,6 +103,7 @@ fn write_out_records<W: Write, A: Allocator>(
 ) -> Result<(), WriteError>
     ensures ok { OnOk result (Appends (W.contents writer.old) (W.contents writer.new) (records_bytes digest records.now)) }
     ensures err { OnErr result (IsBegun (W.contents writer.old) (W.contents writer.new) (records_bytes digest records.now)) }
+    ensures fits { OnOk result (AllByRecursion (Fits Two) records.now) }
 {
     let mut digest = digest;
     for record in records {
@@ -119,6 +123,7 @@ pub fn encode_to<W: Write, A: Allocator>(
     requires { length records.now ≤ LOG_RECORDS }
     ensures ok { OnOk result (Appends (W.contents writer.old) (W.contents writer.new) (log_bytes Two header.now records.now)) }
     ensures err { OnErr result (IsBegun (W.contents writer.old) (W.contents writer.new) (log_bytes Two header.now records.now)) }
+    ensures fits { OnOk result (AllByRecursion (Fits Two) records.now) }
 {
     let mut buffer = Vec::new(alloc);
     write_header(&mut buffer, Version::Two, header)?;
