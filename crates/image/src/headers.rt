@@ -1,6 +1,6 @@
 //! An image in two parts: a header, and entries in the order in which they were captured.
 
-ghost use Rattle.std.specs.Prelude.{◌≡◌, Err, IfOk, OnOk};
+ghost use Rattle.std.specs.Prelude.{◌≡◌, ◌≢◌, Err, IfOk, OnOk, length};
 ghost use Rattle.std.specs.FinMap as finite;
 ghost use Rattle.byteorder.specs.Endian.{big_bytes};
 ghost use Rattle.image.specs.Headers.{FitsHeader, assembled, chain_digest, linked, map_of};
@@ -179,6 +179,8 @@ pub fn assemble<A: Allocator + Clone>(
     ensures value { IfOk result (λ i. i ≡ assembled header.now entries.now) }
     ensures fits { OnOk result (FitsHeader header.now entries.now) }
     ensures bad_form { result ≡ Err refused.BadForm → FitsHeader header.now entries.now → ⊥ }
+    // Another count is found without memory.
+    ensures count { header.now.count ≢ length entries.now → result ≡ Err refused.BadForm }
 {
     if header.count != entries.len() || header.chain != chain_of(entries) {
         return Err(AssembleError::BadForm);

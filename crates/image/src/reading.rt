@@ -5,7 +5,7 @@ ghost use Rattle.std.specs.List.{AllByRecursion};
 ghost use Rattle.byteorder.specs.Endian.{big_number};
 ghost use Rattle.image.specs.ImageBytes.{IsWithin, IsWritable, block_count};
 ghost use Rattle.image.specs.Fronts.{Gives};
-ghost use Rattle.image.specs.Readings.{IsBad, Judges, alone_or_bad, alone_or_refused, first_entries, image_at, second_entries};
+ghost use Rattle.image.specs.Readings.{IsBad, Judges, alone, alone_or_bad, alone_or_refused, first_entries, image_at, second_entries};
 ghost use Rattle.image.specs.Images.{Image as SpecImage};
 ghost use Rattle.image.specs.Refusals.{IsAnswer, stated};
 ghost use Rattle.image.specs.declared.errors.ReadError.{ReadError};
@@ -29,6 +29,7 @@ fn entry_of<A: Allocator>(alloc: A, most: usize, piece: &Piece<'_>) -> Result<En
     ensures value { IfOk result (λ e. e ≡ piece.now) }
     ensures fits { OnOk result (IsWithin most piece.now) }
     ensures err { IfErr result (λ e. (e ≡ refused.NoMemory) ⊎ ((e ≡ refused.BadForm) × (IsWithin most piece.now → ⊥))) }
+    ensures bad_form { (IsWithin most piece.now → ⊥) → result ≡ Err refused.BadForm }
 {
     let key = Key::new(piece.key).ok_or(ReadError::BadForm)?;
     let cell = match piece.cell {
@@ -82,6 +83,20 @@ fn kind_of(byte: u8) -> Option<Kind>
     }
 }
 
+/// The pieces, where nothing stands after them.
+fn alone<'a, A: Allocator>(
+    pieces: Vec<Piece<'a>, A>,
+    rest: &[u8],
+) -> Result<Vec<Piece<'a>, A>, ReadError>
+    ensures value { Gives (λ pieces. pieces.items) result (alone (pieces.entry.items, rest.now)) }
+    ensures bad_form { IfErr result (λ e. e ≡ refused.BadForm) }
+{
+    if !rest.is_empty() {
+        return Err(ReadError::BadForm);
+    }
+    Ok(pieces)
+}
+
 /// So many entries, lawful or not, and nothing after them.
 fn only_entries<A: Allocator>(
     alloc: A,
@@ -93,12 +108,7 @@ fn only_entries<A: Allocator>(
     let mut pieces = Vec::new(alloc);
     match entries_at(&mut pieces, count, bytes)? {
         None => Err(ReadError::BadForm),
-        Some(rest) => {
-            if !rest.is_empty() {
-                return Err(ReadError::BadForm);
-            }
-            Ok(pieces)
-        }
+        Some(rest) => alone(pieces, rest),
     }
 }
 
@@ -113,10 +123,7 @@ fn only_blocks<A: Allocator>(
 {
     let mut pieces = Vec::new(alloc);
     let rest = blocks_at(&mut pieces, digest, count, bytes)?;
-    if !rest.is_empty() {
-        return Err(ReadError::BadForm);
-    }
-    Ok(pieces)
+    alone(pieces, rest)
 }
 
 /// The entries of version 1, lawful or not.
