@@ -1,8 +1,10 @@
 //! What a log's header names: the catalog and the opening image.
 
-ghost use Rattle.std.specs.Prelude.{◌≡◌, ◌↔◌, IfNone, IfOk, IfSome, IsTrue};
+ghost use Rattle.std.specs.Prelude.{◌≡◌, ◌↔◌, IfOk, IsTrue, None, Ok};
 ghost use Rattle.procedure.specs.Bytes.{Bytes};
 ghost use Rattle.sha2.specs.Sha256.{sha256};
+ghost use Rattle.commitlog.specs.declared.formats.Version.TheVariants.{One};
+ghost use Rattle.image.specs.ImageBytes.{HasSmallValues};
 ghost use Rattle.replay.specs.Parts.{HasDigest};
 ghost use Rattle.replay.specs.Headers.{IsSpelling, NamesCatalog, NamesOpening};
 
@@ -28,7 +30,9 @@ fn digest_of<A: Allocator>(
     version: Version,
     image: &Image<A>,
 ) -> Result<Option<[u8; 32]>, NoMemory>
-    ensures { IfOk result (λ digest. HasDigest version image.now digest) }
+    ensures value { IfOk result (λ digest. HasDigest version image.now digest) }
+    // What has no spelling is known without memory.
+    ensures large { version ≡ One → (HasSmallValues image.now → ⊥) → result ≡ Ok None }
 {
     match version {
         Version::One => match seal_v1(alloc, image) {
