@@ -38,7 +38,7 @@ pub struct Finished<A: Allocator> {
     pub outcome: u8,
     pub replies: Sequence<Option<Value<A>>, A>,
     pub table: Table<A>,
-    /// The written keys, in byte order; none where the call doesn't commit.
+    /// The written keys; none where the call doesn't commit.
     pub written: Sequence<Key, A>,
 }
 
