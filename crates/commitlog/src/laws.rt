@@ -1,7 +1,9 @@
 //! Laws of histories, each the contract of a function that does nothing.
 
+ghost use Rattle.std.specs.Prelude.{◌≡◌};
 ghost use Rattle.commitlog.specs.Laws.{FrontsAreHistories, GrowByOne, KeepsCuts, KeepsImages, LastIsGreatest, NumbersRise, SayByOne, WrittenJoins};
 ghost use Rattle.commitlog.specs.LogReadings.{IsReadAgain, OneReading};
+ghost use Rattle.commitlog.specs.declared.limits.TheConstants.{BODY_BYTES, BODY_BYTES_V1, HEADER_BYTES, LOG_RECORDS, REPLIES, VALUE_BYTES_V1};
 
 /// A longer log keeps the cut of every checkpoint that it had, the table there, the checkpoint
 /// finished before, and the keys written before it.
@@ -54,4 +56,14 @@ pub fn reading_law()
 /// What is written is read again.
 pub fn written_log_law()
     ensures { IsReadAgain }
+{}
+
+/// The limits as numbers, which the definitions cite by their names.
+pub fn constants_law()
+    ensures records { LOG_RECORDS ≡ 1000000 }
+    ensures replies { REPLIES ≡ 64 }
+    ensures value_v1 { VALUE_BYTES_V1 ≡ 256 }
+    ensures body_v1 { BODY_BYTES_V1 ≡ 18656 }
+    ensures body { BODY_BYTES ≡ 4718744 }
+    ensures header { HEADER_BYTES ≡ 72 }
 {}

@@ -1,5 +1,7 @@
 //! Laws of the definitions, each the contract of a function that does nothing.
 
+ghost use Rattle.std.specs.Prelude.{◌≡◌};
+ghost use Rattle.procedure.specs.declared.limits.TheConstants.{ARGUMENTS, INSTRUCTIONS, KEY_BYTES, LITERAL_BYTES, PROCEDURES, REGISTERS, SESSIONS, VALUE_BYTES};
 ghost use Rattle.procedure.specs.Catalogs.{KeepsLimits};
 ghost use Rattle.procedure.specs.Copies.{RunsWhole};
 ghost use Rattle.procedure.specs.Runs.{DependsOnTouched, EndsWhole, SaysWhatItWrites};
@@ -29,4 +31,16 @@ pub fn update_law()
 /// has instructions.
 pub fn limits_law()
     ensures { KeepsLimits }
+{}
+
+/// The limits as numbers, which the definitions cite by their names.
+pub fn constants_law()
+    ensures sessions { SESSIONS ≡ 64 }
+    ensures procedures { PROCEDURES ≡ 64 }
+    ensures instructions { INSTRUCTIONS ≡ 64 }
+    ensures arguments { ARGUMENTS ≡ 8 }
+    ensures registers { REGISTERS ≡ 8 }
+    ensures key { KEY_BYTES ≡ 32 }
+    ensures value { VALUE_BYTES ≡ 65535 }
+    ensures literal { LITERAL_BYTES ≡ 256 }
 {}

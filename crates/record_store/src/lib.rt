@@ -4,6 +4,7 @@
 
 pub mod changed_sets;
 mod dead_keys;
+pub mod laws;
 pub mod limits;
 pub mod records;
 pub mod stores;
