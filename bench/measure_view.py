@@ -17,10 +17,12 @@ TOP = Path(__file__).resolve().parent.parent
 CRATES = ("procedure", "image", "view")
 PROGRAM = "view_bench"
 NEEDS = "procedure image view anyhow"
+# Under other endings, since each .rt and .antt file of the repository belongs to one of its crates.
+FILES = {"main.rt.txt": "src/main.rt", "Invariants.antt.txt": "proofs/main/Invariants.antt"}
 
 
 def workspace(folder):
-    """A repository of the program and of what it stands on, with the work that checks kept there."""
+    """A repository of the program and of what it depends on, with the work that checks kept there."""
     lines = (TOP / "crates.txt").read_text().splitlines()
     kept = [line for line in lines if line.replace(":", " ").split()[:1] and line.replace(":", " ").split()[0] in CRATES]
     (folder / "crates.txt").write_text("\n".join([*kept, f"{PROGRAM}: {NEEDS}"]) + "\n")
@@ -28,8 +30,11 @@ def workspace(folder):
     subprocess.run(["git", "init", "-q", folder], check=True)
     for name in CRATES:
         shutil.copytree(TOP / "crates" / name, folder / "crates" / name)
-    shutil.copytree(TOP / "bench" / "view", folder / "crates" / PROGRAM)
-    return folder / "crates" / PROGRAM
+    crate = folder / "crates" / PROGRAM
+    for name, place in FILES.items():
+        (crate / place).parent.mkdir(parents=True, exist_ok=True)
+        shutil.copy(TOP / "bench" / "view" / name, crate / place)
+    return crate
 
 
 def look_ups(program, readers, publishers):

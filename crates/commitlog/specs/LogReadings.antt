@@ -61,7 +61,7 @@ IsForeign v d rest = IsNoRecord v d (stated_body rest) (stated_digest rest)
 abbrev pub IsDamage : Version → Bytes → ℕ → Bytes → Type 0
 IsDamage v d i rest = (4 ≤ length rest) × ((greatest_body v < stated_length rest) ⊎ (IsWhole rest × (IsForeign v d rest ⊎ (i ≡ LOG_RECORDS))))
 
--- the digest is another behind the digest d
+-- the stated digest isn't that of the body after the digest d
 abbrev pub HasOtherDigest : Bytes → Bytes → Type 0
 HasOtherDigest d rest = stated_digest rest ≢ sha256 (d ++ stated_body rest)
 
