@@ -128,7 +128,8 @@ module _ {A : Type 0} where
   abbrev pub Calls : List Procedure → NewCall (List Bytes) → List (Event A) → List (Handled A) → Bytes → Type 0
   Calls catalog c es rs text =
       ((e : BeginError) × (b : Event A) × Begins c b × (es ≡ b ∷ []) × (rs ≡ without_image (reply.Begin (Err e)) ∷ []) × (text ≡ refused_text (begin_error_text e)))
-      ⊎ ((b : Event A) × (fs : List (Event A)) × (qs : List (Handled A)) × Begins c b × (es ≡ b ∷ fs) × (rs ≡ without_image (reply.Begin (Ok tt)) ∷ qs) × GoesOn (count_of (slice_get catalog c.procedure)) c.session fs
+      ⊎ ((b : Event A) × (fs : List (Event A)) × (qs : List (Handled A)) × Begins c b × (es ≡ b ∷ fs) × (rs ≡ without_image (reply.Begin (Ok tt)) ∷ qs) ×
+      GoesOn (count_of (slice_get catalog c.procedure)) c.session fs
       qs text)
 
   -- one event, and what is printed of it
@@ -138,7 +139,8 @@ module _ {A : Type 0} where
   -- captures, each of which visits a place but for the last one
   abbrev pub Scans : List (Event A) → List (Handled A) → Bytes → Type 0
   Scans es rs text =
-      (n : ℕ) × (last : Result Captured CaptureError) × (es ≡ replicate n event.Capture ++ event.Capture ∷ []) × (rs ≡ replicate n (without_image (reply.Capture (Ok Slot))) ++ without_image (reply.Capture last) ∷ []) × EndsScan n
+      (n : ℕ) × (last : Result Captured CaptureError) × (es ≡ replicate n event.Capture ++ event.Capture ∷ []) ×
+      (rs ≡ replicate n (without_image (reply.Capture (Ok Slot))) ++ without_image (reply.Capture last) ∷ []) × EndsScan n
       last text
 
   -- the events that a command is, with what came of each, and what is printed of them

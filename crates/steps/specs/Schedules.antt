@@ -1,5 +1,6 @@
 -- What the events of a schedule do to a core, and how they are answered.
-use Rattle.std.specs.Prelude.{◌≡◌, ◌↔◌, ℕ, Bool, true, false, List, [], ◌∷◌, ◌++◌, flat_map, map, option_to_list, slice_index_or, slice_set, Option, Some, None, Ok, Err, OnOk, OnErr, IfOk, IsOk, IfSome, IsSome, is_ok, is_some, suc}
+use Rattle.std.specs.Prelude.{◌≡◌, ◌↔◌, ℕ, Bool, true, false, List, [], ◌∷◌, ◌++◌, flat_map, map, option_to_list, slice_index_or, slice_set, Option, Some, None, Ok, Err, OnOk, OnErr, IfOk}
+use Rattle.std.specs.Prelude.{IsOk, IfSome, IsSome, is_ok, is_some, suc}
 use Rattle.std.specs.declared.result.Result.{Result}
 use Rattle.procedure.specs.Bytes.{Bytes}
 use Rattle.commitlog.specs.Records.{Record, Call}

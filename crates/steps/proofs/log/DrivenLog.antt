@@ -1,5 +1,6 @@
 -- What a schedule's answers say of the log.
-use Rattle.std.proofs.Common.{◌≡◌, ◌+◌, arith, cond, count_by, option_to_list, ℕ, zero, suc, Bool, true, false, is_some, IfSome, List, [], ◌∷◌, ◌++◌, length, map, Option, Some, None, Vec, Ok, Err, is_ok, IsSome, option_map, replicate, slice_get, slice_set, slice_index_or, refl, sym, ap, ◌∙◌, subst}
+use Rattle.std.proofs.Common.{◌≡◌, ◌+◌, arith, cond, count_by, option_to_list, ℕ, zero, suc, Bool, true, false, is_some, IfSome, List, [], ◌∷◌, ◌++◌, length, map, Option, Some, None, Vec}
+use Rattle.std.proofs.Common.{Ok, Err, is_ok, IsSome, option_map, replicate, slice_get, slice_set, slice_index_or, refl, sym, ap, ◌∙◌, subst}
 use Rattle.std.specs.declared.result.Result.{Result}
 use Rattle.std.proofs.lemmas.List.{append-nil, append_assoc, length-append, map-append, map-set, set-get_or}
 use Rattle.std.proofs.lemmas.List.Sums.{sum_by-cons}
@@ -18,7 +19,8 @@ use Rattle.steps.specs.Drives.{EachStands, calls_of}
 use Rattle.steps.specs.Refusals.{finish_refusal, step_refusal, unfinished, unstepped}
 use Rattle.steps.specs.Checkpointing.{AdvancesTo, CapturesAs, restarted}
 use Rattle.steps.specs.CutImages.{AllTaken, IsTaken}
-use Rattle.steps.specs.Schedules.{AbandonsAs, AdvancesAs, BeginsAs, FinishesAs, GivesUpAs, Handles, HandlesAll, HandlesWith, ReclaimsAs, StartsAs, StepsAs, TakesImage, VisitsAs, answer_to, answered_call, answered_calls, begun_by, image_in, images_in, is_accepted, is_taken, replies_in}
+use Rattle.steps.specs.Schedules.{AbandonsAs, AdvancesAs, BeginsAs, FinishesAs, GivesUpAs, Handles, HandlesAll, HandlesWith, ReclaimsAs, StartsAs, StepsAs, TakesImage, VisitsAs, answer_to}
+use Rattle.steps.specs.Schedules.{answered_call, answered_calls, begun_by, image_in, images_in, is_accepted, is_taken, replies_in}
 use Rattle.steps.specs.declared.captures.Captured.{Captured}
 use Rattle.steps.specs.declared.captures.Captured.TheVariants.{Slot, Done}
 use Rattle.steps.specs.declared.errors.FinishError.{FinishError}
@@ -270,8 +272,12 @@ module _ {A : Type 0} where
   handled (event.Finish s) old new r h =
       subst (λ (x : Handled A). Grows old new (begun_by {A = A} (event.Finish s) (is_accepted x.reply) (begun_in old)) (answer_to (event.Finish s) x.reply (begun_in old))) (sym h.1)
       (finish_handled s old new h.0 h.2)
-  handled (event.GiveUp s) old new r h = subst (λ (x : Handled A). Grows old new (begun_by {A = A} (event.GiveUp s) (is_accepted x.reply) (begun_in old)) []) (sym h.1) (give_up_handled A s old new h.0 h.2)
-  handled (event.Start k) old new r h = subst (λ (x : Handled A). Grows old new (begun_by {A = A} (event.Start k) (is_accepted x.reply) (begun_in old)) []) (sym h.1) (start_handled A k old new h.0 h.2)
+  handled (event.GiveUp s) old new r h =
+      subst (λ (x : Handled A). Grows old new (begun_by {A = A} (event.GiveUp s) (is_accepted x.reply) (begun_in old)) []) (sym h.1)
+      (give_up_handled A s old new h.0 h.2)
+  handled (event.Start k) old new r h =
+      subst (λ (x : Handled A). Grows old new (begun_by {A = A} (event.Start k) (is_accepted x.reply) (begun_in old)) []) (sym h.1)
+      (start_handled A k old new h.0 h.2)
   handled event.Advance old new r h = subst (λ (x : Handled A). Grows old new (begun_by {A = A} event.Advance (is_accepted x.reply) (begun_in old)) []) (sym h.1) (advance_handled A old new h.0 h.2)
   handled event.Capture old new r h = subst (λ (x : Handled A). Grows old new (begun_by {A = A} event.Capture (is_accepted x.reply) (begun_in old)) []) (sym h.1) (capture_handled A old new h.0 h.2)
   handled event.TakeImage old new r h = subst (λ (x : Handled A). Grows old new (begun_by {A = A} event.TakeImage (is_accepted x.reply) (begun_in old)) []) (sym h.1) (take_handled A old new h.0 h.2)
@@ -350,7 +356,8 @@ module _ {A : Type 0} where
       let first = one_counted e old h.0 x h.1 in
       let others = images_counted es hs h.0 new h.2 in
       let both : length (images_in (x ∷ hs)) ≡ length (image_in x) + length (images_in hs) = length-append (image_in x) (images_in hs) in
-      let counted : count_by is_taken (replies_in (x ∷ hs)) ≡ cond (is_taken x.reply) 1 0 + count_by is_taken (replies_in hs) = sum_by-cons (λ (r : Reply A). cond (is_taken r) 1 0) x.reply (replies_in hs) in
+      let counted : count_by is_taken (replies_in (x ∷ hs)) ≡ cond (is_taken x.reply) 1 0 + count_by is_taken (replies_in hs) =
+      sum_by-cons (λ (r : Reply A). cond (is_taken r) 1 0) x.reply (replies_in hs) in
       omega (arith, first, others, both, counted)
 
   -- from an empty log

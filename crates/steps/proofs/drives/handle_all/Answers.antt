@@ -56,16 +56,18 @@ loop-event-preserved-in-Continue-1 g c =
     let i = c.loop-event.invariant in
     let h = c.in-Some.ensures.steps in
     let x : Handled g.row.A.Denot = c.handle-reply.result in
+    let now = into_iter_items c.loop-event.event-iterator in
     let left = into_iter_items c.next.new.self in
     let one : List Image = c.in-Some-image.image ∷ [] in
+    let taken = ap (λ o. option_to_list o ++ []) c.in-Some-image.is in
     let fewer : length (into_iter_items c.loop-event.event-iterator) ≡ suc (length left) = ap (λ l. length l) h.0 in
     let replies = c.push_reserved.ensures in
     let images = c.in_ok-push.ensures in
     record {
       each = i.each ++ x ∷ [];
       replied = replies.items ∙ ap (λ l. l ++ x.reply ∷ []) i.replied ∙ sym (map-append (λ (y : Handled g.row.A.Denot). y.reply) i.each (x ∷ []));
-      taken = images.items ∙ ap (λ (l : List Image). l ++ one) i.taken ∙ ap (λ (l : List Image). images_in i.each ++ l) (sym (ap (λ o. option_to_list o ++ []) c.in-Some-image.is)) ∙ sym (flat_map-append image_in i.each (x ∷ []));
-      goes_on = on_more g.row.A.Denot c.args.events.items c.args.core.now (into_iter_items c.loop-event.event-iterator) left c.loop-event.core c.handle-reply.new.self i.each c.in-Some.event x i.goes_on h.0 c.handle-reply.ensures;
+      taken = images.items ∙ ap (λ (l : List Image). l ++ one) i.taken ∙ ap (λ (l : List Image). images_in i.each ++ l) (sym taken) ∙ sym (flat_map-append image_in i.each (x ∷ []));
+      goes_on = on_more g.row.A.Denot c.args.events.items c.args.core.now now left c.loop-event.core c.handle-reply.new.self i.each c.in-Some.event x i.goes_on h.0 c.handle-reply.ensures;
       room = omega (arith, fewer, i.room, replies.len, replies.capacity);
       count = omega (arith, i.count, h.1, fewer);
     }
@@ -75,6 +77,7 @@ loop-event-preserved g c =
     let i = c.loop-event.invariant in
     let h = c.in-Some.ensures.steps in
     let x : Handled g.row.A.Denot = c.handle-reply.result in
+    let now = into_iter_items c.loop-event.event-iterator in
     let left = into_iter_items c.next.new.self in
     let fewer : length (into_iter_items c.loop-event.event-iterator) ≡ suc (length left) = ap (λ l. length l) h.0 in
     let replies = c.push_reserved.ensures in
@@ -83,7 +86,7 @@ loop-event-preserved g c =
       each = i.each ++ x ∷ [];
       replied = replies.items ∙ ap (λ l. l ++ x.reply ∷ []) i.replied ∙ sym (map-append (λ (y : Handled g.row.A.Denot). y.reply) i.each (x ∷ []));
       taken = i.taken ∙ sym (append-nil (images_in i.each)) ∙ ap (λ (l : List Image). images_in i.each ++ (l ++ [])) (sym none) ∙ sym (flat_map-append image_in i.each (x ∷ []));
-      goes_on = on_more g.row.A.Denot c.args.events.items c.args.core.now (into_iter_items c.loop-event.event-iterator) left c.loop-event.core c.handle-reply.new.self i.each c.in-Some.event x i.goes_on h.0 c.handle-reply.ensures;
+      goes_on = on_more g.row.A.Denot c.args.events.items c.args.core.now now left c.loop-event.core c.handle-reply.new.self i.each c.in-Some.event x i.goes_on h.0 c.handle-reply.ensures;
       room = omega (arith, fewer, i.room, replies.len, replies.capacity);
       count = omega (arith, i.count, h.1, fewer);
     }
