@@ -1,8 +1,14 @@
--- What contracts see of a publisher.
+-- What contracts see of a view and of its publisher.
 use Rattle.std.specs.Prelude.{List, ◌++◌}
 use Rattle.left_right.specs.Handles as handles
+use Rattle.logbook.specs.Pages.{Book}
 use Rattle.image.specs.Images.{Image}
+use Rattle.view.specs.declared.histories.Opened.{Opened}
 use Rattle.view.specs.declared.publishers.Publisher.{Publisher}
+
+-- the name of the view that is opened of this history
+abbrev pub name_of : {A : Type 0} → Opened A → Book
+name_of opened = opened.seen.book
 
 module _ {J R A S : Type 0} {h g : _} where
   -- the images that lookers read

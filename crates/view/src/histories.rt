@@ -70,6 +70,7 @@ impl Naming for Brand {
 }
 
 /// An empty history, which has no name yet. A view is opened of it.
+#[derive(Drop)]
 pub struct Opened<A: Allocator> {
     word: Word<Image<A>, u64, Counted>,
     seen: Seen<Image<A>, u64, Counted>,
@@ -78,6 +79,8 @@ pub struct Opened<A: Allocator> {
 }
 
 impl<A: Allocator> Opened<A> {
+    ghost use Rattle.view.specs.Views.{name_of};
+
     pub fn new() -> Self {
         let (seen, mut first, _second) = Seen::open(Start::alone(), 0, 0);
         Opened {
@@ -88,7 +91,7 @@ impl<A: Allocator> Opened<A> {
 
     /// The history by its name, and its beginning.
     pub(crate) fn named<J: Naming>(self) -> (History<J, A>, Beginning<J, A>)
-        requires { self.seen.book ≡ J.book }
+        requires { name_of self ≡ J.book }
         ensures { result.1 ≡ [] }
     {
         let Opened { word, seen } = self;

@@ -89,7 +89,7 @@ impl Error for NoLooker {}
 #[derive(Clone, Copy, Debug, PartialEq, Eq)]
 pub enum LookError {
     NoMemory,
-    /// The table was not open to this looker.
+    /// The table was not open to this looker, as after its publisher was dropped. No clause says when.
     NotEntered,
 }
 
@@ -126,7 +126,7 @@ pub struct NoAnswer<J: Naming, A: Allocator> {
     pub seen: Seen<J, A>,
 }
 
-/// Looks keys up. It may move to a thread of its own.
+/// Looks keys up, as long as its publisher isn't dropped. It may move to a thread of its own.
 #[derive(Drop)]
 pub struct Looker<J: Naming, A: Allocator> {
     handle: ReadHandle<Shown<J, A>, A>,
@@ -160,8 +160,10 @@ impl<J: Naming, A: Allocator> Looker<J, A> {
 
 impl<J: Naming, A: Allocator + Clone> Looker<J, A> {
     /// What a key holds in the table that is published: one look-up, and a copy of the value. The images
-    /// that are seen then begin with those seen before. It waits for nobody. Where it is refused,
-    /// `seen` comes back as it was.
+    /// that are seen then begin with those seen before. It waits for nobody.
+    ///
+    /// It returns `NoMemory` where the value wasn't copied, and `NotEntered` where the table isn't open to
+    /// this looker: a looker that outlives its publisher gets nothing more. Both hand `seen` back as it was.
     pub fn get(&mut self, seen: Seen<J, A>, key: &Key) -> Result<Answer<J, A>, NoAnswer<J, A>>
         ensures later { IfOk result (λ a. IsPrefix seen a.seen) }
         ensures number { IfOk result (λ a. a.number ≡ number_of a.seen) }

@@ -1,9 +1,10 @@
 //! Tests of what no clause says: that calls succeed where there is memory, and what lookers in threads see
 //! beside a publisher at work.
 ghost use Rattle.std.specs.Prelude.{◌≡◌};
+ghost use Rattle.view.specs.Views.{name_of};
 
 use crate::limits::LOOKERS;
-use crate::{AppendError, Looker, Naming, Opened, Publisher, Seen, open_view};
+use crate::{AppendError, LookError, Looker, Naming, Opened, Publisher, Seen, open_view};
 use image::{Entry, Image, Kind};
 use procedure::{Key, Value};
 use std::alloc::Global;
@@ -173,7 +174,7 @@ fn count_right<J: Naming, R: Wait>(
     alloc: Global,
     opened: Opened<Global>,
 ) -> Result<usize, Fail>
-    requires { opened.seen.book ≡ J.book }
+    requires { name_of opened ≡ J.book }
 {
     let (mut publisher, mut looker, mut seen) = open_view::<J, &R, Global>(alloc, rt, opened)?;
     for (i, (step, expected)) in STEPS.into_iter().enumerate() {
@@ -199,7 +200,7 @@ fn count_lookers<J: Naming, R: Wait>(
     alloc: Global,
     opened: Opened<Global>,
 ) -> Result<usize, Fail>
-    requires { opened.seen.book ≡ J.book }
+    requires { name_of opened ≡ J.book }
 {
     let (_publisher, looker, seen) = open_view::<J, &R, Global>(alloc, rt, opened)?;
     let mut others = Vec::with_capacity(alloc, 2 * LOOKERS)?;
@@ -216,6 +217,31 @@ fn count_lookers<J: Naming, R: Wait>(
 fn most_lookers(rt: HostRuntime) -> Result<(), Fail> {
     let others = count_lookers::<Brand, _>(&rt, rt.alloc(), Opened::new())?;
     assert_eq!(rt; others, LOOKERS - 1);
+    Ok(())
+}
+
+/// Why a looker gets nothing once its publisher was dropped.
+fn look_after<J: Naming, R: Wait>(
+    rt: &R,
+    alloc: Global,
+    opened: Opened<Global>,
+) -> Result<Option<LookError>, Fail>
+    requires { name_of opened ≡ J.book }
+{
+    let (mut publisher, mut looker, seen) = open_view::<J, &R, Global>(alloc, rt, opened)?;
+    publisher.append(numbered(alloc, 1)?)?;
+    publisher.publish()?;
+    drop(publisher);
+    match looker.get(seen, &key(b'a')?) {
+        Ok(_) => Ok(None),
+        Err(refused) => Ok(Some(refused.error)),
+    }
+}
+
+#[test]
+fn looker_without_publisher(rt: HostRuntime) -> Result<(), Fail> {
+    let error = look_after::<Brand, _>(&rt, rt.alloc(), Opened::new())?;
+    assert!(rt; error == Some(LookError::NotEntered));
     Ok(())
 }
 
@@ -295,7 +321,7 @@ fn watch_beside<J: Naming + Send + Sync, R: Threads + Wait + Sync>(
     alloc: Global,
     opened: Opened<Global>,
 ) -> Result<[Sight; 4], Fail>
-    requires { opened.seen.book ≡ J.book }
+    requires { name_of opened ≡ J.book }
 {
     let (mut publisher, a, of_a) = open_view::<J, &R, Global>(alloc, rt, opened)?;
     let (b, of_b) = a.another(&of_a)?;

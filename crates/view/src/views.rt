@@ -1,7 +1,7 @@
 //! A view is opened.
 
 ghost use Rattle.std.specs.Prelude.{◌≡◌, [], IfOk, Some, codes};
-ghost use Rattle.view.specs.Views.{published, pending};
+ghost use Rattle.view.specs.Views.{name_of, published, pending};
 
 use crate::histories::{Naming, Opened};
 use crate::limits::LOOKERS;
@@ -42,7 +42,7 @@ pub fn open_view<J: Naming, R: Wait + Drop, A: Allocator + Copy>(
     rt: R,
     opened: Opened<A>,
 ) -> Result<(Publisher<J, R, A>, Looker<J, A>, Seen<J, A>), NoView>
-    requires { opened.seen.book ≡ J.book }
+    requires { name_of opened ≡ J.book }
     ensures published { IfOk result (λ view. published view.0 ≡ []) }
     ensures pending { IfOk result (λ view. pending view.0 ≡ []) }
     ensures seen { IfOk result (λ view. view.2 ≡ []) }

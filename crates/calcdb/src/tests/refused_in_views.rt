@@ -1,6 +1,7 @@
 //! Views with growths refused: a call that is refused leaves the view as it was, and then succeeds. What was
 //! told is learnt without memory.
 ghost use Rattle.std.specs.Prelude.{◌≡◌};
+ghost use Rattle.view.specs.Views.{name_of};
 
 use crate::tests::growths::{EVERY, Fallible};
 use image::{Entry, Image, Kind};
@@ -195,7 +196,7 @@ fn tried<J: Naming, R: Wait, A: Allocator + Copy>(
     call: Call,
     refused: u64,
 ) -> Result<Outcome, Fail>
-    requires { opened.seen.book ≡ J.book }
+    requires { name_of opened ≡ J.book }
 {
     let (mut publisher, mut looker, seen) = open_view::<J, &R, A>(alloc, rt, opened)?;
     let key = Key::new(b"a").ok_or("no key")?;
@@ -252,7 +253,7 @@ fn opens<J: Naming, R: Wait, A: Allocator + Copy>(
     opened: Opened<A>,
     refused: u64,
 ) -> (bool, bool)
-    requires { opened.seen.book ≡ J.book }
+    requires { name_of opened ≡ J.book }
 {
     heap.arm(refused);
     let is_open = open_view::<J, &R, A>(alloc, rt, opened).is_ok();
@@ -297,7 +298,7 @@ fn learnt<J: Naming, R: Wait, A: Allocator + Copy>(
     heap: &Fallible<Global>,
     opened: Opened<A>,
 ) -> Result<([Reply; 2], u64), Fail>
-    requires { opened.seen.book ≡ J.book }
+    requires { name_of opened ≡ J.book }
 {
     let (mut publisher, mut looker, seen) = open_view::<J, &R, A>(alloc, rt, opened)?;
     let key = Key::new(b"a").ok_or("no key")?;
