@@ -6,6 +6,8 @@
 #![tactic(auto)]
 
 mod actions;
+#[cfg(test)]
+mod byte_tests;
 pub mod bytes;
 pub mod catalogs;
 mod digests;
