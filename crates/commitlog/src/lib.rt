@@ -6,6 +6,8 @@
 #![tactic(auto)]
 
 mod bodies;
+#[cfg(test)]
+mod body_tests;
 pub mod decoding;
 pub mod encoding;
 pub mod formats;

@@ -10,6 +10,8 @@
 mod byte_tests;
 pub mod entries;
 pub mod errors;
+#[cfg(test)]
+mod form_tests;
 mod fronts;
 pub mod headers;
 pub mod images;
