@@ -3,6 +3,7 @@ use super::*;
 use crate::log_bytes_tests::{FIRST, SECOND, Seen, outcome_of};
 use sha2::{Digest, Sha256};
 use std::alloc::{AllocError, Global};
+use std::process::Abort;
 use std::test::Fail;
 
 /// A call of session 0 with number 1 of procedure 0, without arguments, committed, without replies.
@@ -82,14 +83,23 @@ const CALLS: [(usize, u8, bool); 15] = [
     (15, 1, false),
 ];
 
-#[test]
-fn calls(rt: HostRuntime) -> Result<(), Fail> {
-    for (place, byte, wanted) in CALLS {
-        let body = with_byte(rt.alloc(), &CALL, place, byte)?;
-        let found = in_both(rt.alloc(), body.as_slice())?;
-        assert_eq!(rt; found, (Some(wanted), Some(wanted)), "{place}: {byte}");
+/// Compares what is read of a body with another byte at each of these places.
+fn check_altered<R: Abort + AllocGlobal>(
+    rt: &R,
+    body: &[u8],
+    rows: &[(usize, u8, bool)],
+) -> Result<(), Fail> {
+    for (place, byte, wanted) in rows {
+        let altered = with_byte(rt.alloc(), body, *place, *byte)?;
+        let found = in_both(rt.alloc(), altered.as_slice())?;
+        assert_eq!(rt; found, (Some(*wanted), Some(*wanted)), "{place}: {byte}");
     }
     Ok(())
+}
+
+#[test]
+fn calls(rt: HostRuntime) -> Result<(), Fail> {
+    check_altered(&rt, &CALL, &CALLS)
 }
 
 /// A place in the token, the byte there, and whether that is a record: the tag, the phase.
@@ -103,12 +113,7 @@ const TOKENS: [(usize, u8, bool); 5] = [
 
 #[test]
 fn tokens(rt: HostRuntime) -> Result<(), Fail> {
-    for (place, byte, wanted) in TOKENS {
-        let body = with_byte(rt.alloc(), &TOKEN, place, byte)?;
-        let found = in_both(rt.alloc(), body.as_slice())?;
-        assert_eq!(rt; found, (Some(wanted), Some(wanted)), "{place}: {byte}");
-    }
-    Ok(())
+    check_altered(&rt, &TOKEN, &TOKENS)
 }
 
 /// The body of a call with empty arguments and absent replies, and bytes after it.

@@ -81,6 +81,7 @@ pub struct Opened<A: Allocator> {
 impl<A: Allocator> Opened<A> {
     ghost use Rattle.view.specs.Views.{name_of};
 
+    /// A history without images. It takes no memory.
     pub fn new() -> Self {
         let (seen, mut first, _second) = Seen::open(Start::alone(), 0, 0);
         Opened {

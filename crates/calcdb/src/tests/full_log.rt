@@ -52,7 +52,7 @@ fn ready(core: &mut Core<Global>, alloc: Global, number: u64) -> Option<()> {
     Some(())
 }
 
-/// Where the calls stand in the log, and how many records it has then.
+/// How many of the calls are answered, and how many records the log has then.
 fn last_calls(core: &mut Core<Global>, alloc: Global) -> (u64, usize) {
     let mut count = 0u64;
     for number in 0..CALLS {
