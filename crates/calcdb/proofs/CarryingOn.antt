@@ -9,12 +9,14 @@ use Rattle.phase.specs.declared.phases.Phase.{Phase}
 use Rattle.phase.specs.declared.phases.Phase.TheVariants.{Rest, Prepare, Resolve, Capture, Complete}
 use Rattle.image.specs.Images.{Image}
 use Rattle.image.specs.declared.images.Kind.{Kind}
-use Rattle.steps.specs.Checkpointing.{AdvancesTo, CapturesAs}
+use Rattle.steps.specs.Checkpointing.{AdvancesTo, CapturesAs, CompletesBy}
 use Rattle.steps.specs.CoreViews.{CoreView, Finishes, OfOpen, Steps, Underway, open_at}
 use Rattle.steps.specs.Refusals.{unfinished, unstepped}
 use Rattle.steps.specs.Schedules.{AbandonsAs, AdvancesAs, BeginsAs, FinishesAs, GivesUpAs, Handles, HandlesAll, StartsAs, StepsAs, VisitsAs, image_in, images_in}
 use Rattle.steps.specs.declared.captures.Captured.{Captured}
 use Rattle.steps.specs.declared.captures.Captured.TheVariants.{Slot, Done}
+use Rattle.steps.specs.declared.checkpoints.Way.{Way}
+use Rattle.steps.specs.declared.checkpoints.Way.TheVariants.{Streamed, Whole}
 use Rattle.steps.specs.declared.errors.AbandonError.{AbandonError}
 use Rattle.steps.specs.declared.errors.AdvanceError.{AdvanceError}
 use Rattle.steps.specs.declared.errors.CaptureError.{CaptureError}
@@ -60,11 +62,15 @@ start_kept : (old new : CoreView) (k : Kind) (r : Result ℕ StartError) → Sta
 start_kept old new k (Ok x) h = ap (λ (v : CoreView). v.catalog) h.started
 start_kept old new k (Err e) h = ap (λ (v : CoreView). v.catalog) h.refused
 
+completed_kept : (way : Way) (old new : CoreView) → CompletesBy way old new → new.catalog ≡ old.catalog
+completed_kept Whole old new h = ap (λ (v : CoreView). v.catalog) h.2
+completed_kept Streamed old new h = ap (λ (v : CoreView). v.catalog) h.2
+
 advanced_kept : (p : Phase) (old new : CoreView) → AdvancesTo p old new → new.catalog ≡ old.catalog
 advanced_kept Prepare old new h = absurd h
 advanced_kept Resolve old new h = ap (λ (v : CoreView). v.catalog) h
 advanced_kept Capture old new h = ap (λ (v : CoreView). v.catalog) h.2
-advanced_kept Complete old new h = ap (λ (v : CoreView). v.catalog) h.2
+advanced_kept Complete old new h = completed_kept old.checkpoint.way old new h
 advanced_kept Rest old new h = ap (λ (v : CoreView). v.catalog) h
 
 advance_kept : (old new : CoreView) (r : Result Phase AdvanceError) → AdvancesAs old new r → new.catalog ≡ old.catalog

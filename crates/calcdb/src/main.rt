@@ -34,5 +34,5 @@ use std::process::ExitCode;
 
 fn main(rt: HostRuntime) -> ExitCode {
     let mut err = rt.stderr();
-    ExitCode::from(program::start(&rt, rt.stdout(), &mut err))
+    ExitCode::from(program::start(rt.alloc(), &rt, &rt, rt.stdout(), &mut err))
 }

@@ -328,33 +328,38 @@ where
 }
 
 /// Performs what the process is asked for, with a buffer for its standard output.
-fn perform_buffered<R: Env + Files + AllocGlobal, O: Write + Drop, E: Write>(
-    rt: &R,
-    out: O,
-    err: &mut E,
-) -> io::Result<u8>
+fn perform_buffered<
+    V: Env + Alloc,
+    R: Files + AllocGlobal,
+    O: Write + Drop,
+    E: Write,
+    A: Allocator + Copy,
+>(alloc: A, env: &V, rt: &R, out: O, err: &mut E) -> io::Result<u8>
 where
     R::File: Drop,
 {
-    let mut words = Vec::new(rt.alloc());
-    for word in env::args(rt)? {
+    let mut words = Vec::new(alloc);
+    for word in env::args(env)? {
         words.push(word)?;
     }
-    let mut out = BufWriter::new(rt.alloc(), out)?;
-    Ok(perform(rt.alloc(), rt, words.as_slice(), &mut out, err))
+    let mut out = BufWriter::new(alloc, out)?;
+    Ok(perform(alloc, rt, words.as_slice(), &mut out, err))
 }
 
 /// What the process does, and its status. Where its words or its buffer aren't to be had, that is for
-/// out of memory, or a word isn't UTF-8.
-pub(crate) fn start<R: Env + Files + AllocGlobal, O: Write + Drop, E: Write>(
-    rt: &R,
-    out: O,
-    err: &mut E,
-) -> u8
+/// out of memory, or a word isn't UTF-8. The words take their memory from `env`, clap takes it from the
+/// runtime, and all else from `alloc`.
+pub(crate) fn start<
+    V: Env + Alloc,
+    R: Files + AllocGlobal,
+    O: Write + Drop,
+    E: Write,
+    A: Allocator + Copy,
+>(alloc: A, env: &V, rt: &R, out: O, err: &mut E) -> u8
 where
     R::File: Drop,
 {
-    match perform_buffered(rt, out, err) {
+    match perform_buffered(alloc, env, rt, out, err) {
         Ok(status) => status,
         Err(error) if error.kind() == io::ErrorKind::OutOfMemory => {
             concluded(err, Err(Failure::NoMemory))

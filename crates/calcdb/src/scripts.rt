@@ -16,7 +16,7 @@ use crate::instructions::{instruction_of, is_word};
 use crate::lines::{end_of, first_word, is_allowed, is_skipped, line_at, without_return, word_at};
 use crate::values::decimal_of;
 use procedure::limits::{ARGUMENTS, INSTRUCTIONS, PROCEDURES};
-use procedure::{Catalog, Instr, Key, KeyMap, Procedure, Sequence, Value};
+use procedure::{Catalog, Code, Instr, Key, KeyMap, Procedure, Sequence, Value};
 use std::alloc::{AllocError, Allocator};
 use std::marker::Model;
 
@@ -103,19 +103,19 @@ impl<A: Allocator + Clone> Block<A> {
         })
     }
 
-    fn into_procedure(self) -> Procedure<A>
-        ensures value { result ≡ record { arity = self.arity; code = self.code } }
-        ensures lawful { procedure_fault result ≡ None }
+    fn into_procedure(self) -> Result<Procedure<A>, AllocError>
+        ensures value { IfOk result (λ p. p ≡ record { arity = self.arity; code = self.code }) }
+        ensures lawful { IfOk result (λ p. procedure_fault p ≡ None) }
     {
         let Block {
             line: _,
             arity,
             code,
         } = self;
-        Procedure {
+        Ok(Procedure {
             arity,
-            code: Sequence::new(code),
-        }
+            code: Code::new(code)?,
+        })
     }
 }
 
@@ -269,7 +269,7 @@ impl<A: Allocator + Clone> Said<A> {
         ensures { ReadsAs (λ _. self.new) result (spec.in_block self.old block (words line.now)) }
     {
         if ends_block(line) {
-            self.procedures.push(block.into_procedure())?;
+            self.procedures.push(block.into_procedure()?)?;
         } else {
             let _ended = self.block.replace(block.with_line(line)?);
         }

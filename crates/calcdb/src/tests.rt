@@ -1,5 +1,6 @@
 //! Tests of the program, as tables of texts and rows of commands.
 
+mod ample_memory;
 mod checkpoints;
 mod console;
 mod core_calls;
@@ -7,6 +8,7 @@ mod devices;
 mod embedding;
 mod examples;
 mod failing_devices;
+mod faulty_files;
 mod fixtures;
 mod full_log;
 mod growths;
@@ -20,10 +22,12 @@ mod refused_in_calls;
 mod refused_in_images;
 mod refused_in_rings;
 mod refused_in_runs;
+mod refused_in_streams;
 mod refused_in_views;
 mod rows;
 mod runs;
 mod schedules;
 mod scripts;
+mod starts;
 mod texts;
 mod without_memory;

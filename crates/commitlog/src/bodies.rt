@@ -89,7 +89,7 @@ fn value_of<'a, A: Allocator + Clone>(
         return Err(BodyError::Malformed);
     }
     let (value, rest) = rest.split_at(length);
-    match Value::new(Vec::from_slice(alloc.clone()?, value)?) {
+    match Value::from_slice(alloc.clone()?, value)? {
         Some(value) => Ok((value, rest)),
         None => Err(BodyError::Malformed),
     }

@@ -183,3 +183,35 @@ fn lengths(rt: HostRuntime) -> Result<(), Fail> {
     }
     Ok(())
 }
+
+/// The bytes of a log of 1,000,000 tokens, and the digest of its last record.
+fn full_log(alloc: Global) -> Result<(Vec<u8>, Vec<u8>), AllocError> {
+    let mut bytes = Vec::from_slice(alloc, &SECOND[..72])?;
+    let mut signed = Vec::from_slice(alloc, &Sha256::digest(&SECOND[..72]))?;
+    for _ in 0..1_000_000 {
+        add(&mut bytes, &mut signed, &TOKEN)?;
+    }
+    Ok((bytes, signed))
+}
+
+/// What is read of a full log, of one with a whole record after it, and with a part of one.
+fn read_of_full(alloc: Global) -> Result<[Seen; 3], AllocError> {
+    let (mut bytes, mut signed) = full_log(alloc)?;
+    let full = outcome_of(read_log(alloc, bytes.as_slice()));
+    add(&mut bytes, &mut signed, &TOKEN)?;
+    let more = outcome_of(read_log(alloc, bytes.as_slice()));
+    let _last = bytes.pop();
+    let torn = outcome_of(read_log(alloc, bytes.as_slice()));
+    Ok([full, more, torn])
+}
+
+#[test]
+fn at_the_limit(rt: HostRuntime) -> Result<(), Fail> {
+    let wanted = [
+        Seen::Clean(1_000_000),
+        Seen::Refused(LogError::Damaged(1_000_000)),
+        Seen::Torn(1_000_000),
+    ];
+    assert_eq!(rt; read_of_full(rt.alloc())?, wanted);
+    Ok(())
+}

@@ -97,7 +97,7 @@ fn replies(
 }
 
 /// A log of one call, of so many arguments and replies of these lengths.
-fn one_call(
+pub(crate) fn one_call(
     alloc: Global,
     args: (usize, usize),
     reply: (usize, usize),
@@ -121,7 +121,7 @@ fn text(alloc: Global, bytes: &[u8]) -> Result<Value<Global>, Fail> {
 fn call_of_two(alloc: Global) -> Result<Option<Record<Global>>, Fail> {
     let mut args = Vec::new(alloc);
     args.push(text(alloc, b"a")?)?;
-    args.push(Value::of_number(alloc, 5)?)?;
+    args.push(Value::of_number(5))?;
     let call = Call {
         session: 0,
         number: 1,
@@ -135,7 +135,7 @@ fn call_of_one(alloc: Global) -> Result<Option<Record<Global>>, Fail> {
     let mut args = Vec::new(alloc);
     args.push(text(alloc, b"a")?)?;
     let mut replied = Vec::new(alloc);
-    replied.push(Some(Value::of_number(alloc, 5)?))?;
+    replied.push(Some(Value::of_number(5)))?;
     let call = Call {
         session: 0,
         number: 2,
@@ -145,7 +145,7 @@ fn call_of_one(alloc: Global) -> Result<Option<Record<Global>>, Fail> {
     Ok(Record::call(call, 0, Sequence::new(replied)))
 }
 
-fn two_calls(alloc: Global) -> Result<Vec<Record<Global>>, Fail> {
+pub(crate) fn two_calls(alloc: Global) -> Result<Vec<Record<Global>>, Fail> {
     let mut records = Vec::new(alloc);
     records.push(call_of_two(alloc)?.ok_or("out of range")?)?;
     records.push(call_of_one(alloc)?.ok_or("out of range")?)?;

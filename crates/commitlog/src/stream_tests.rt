@@ -1,6 +1,7 @@
 //! Tests of logs that go to a writer and come from a reader: devices that fail at a call, and that take
 //! or give few bytes a call.
 use super::*;
+use crate::log_bytes_tests::{one_call, two_calls};
 use phase::Phase;
 use procedure::Sequence;
 use std::alloc::Global;
@@ -169,4 +170,59 @@ fn nothing_to_read(rt: HostRuntime) {
     };
     let refused = read_log_from(rt.alloc(), &mut source).err();
     assert_eq!(rt; refused, Some(ReadError::Log(LogError::NotALog)));
+}
+
+/// Tokens of all phases, calls with and without replies, and one with long values.
+fn each_kind(alloc: Global) -> Result<Vec<Record<Global>>, Fail> {
+    let mut records = two_calls(alloc)?;
+    for phase in [Phase::Rest, Phase::Prepare, Phase::Resolve, Phase::Capture] {
+        records.push(Record::token(phase, u64::MAX))?;
+    }
+    records.push(Record::token(Phase::Complete, 0))?;
+    for record in one_call(alloc, (8, 300), (64, 300))? {
+        records.push(record)?;
+    }
+    Ok(records)
+}
+
+/// The records of a log that is written to a writer and read from a reader, each with few bytes a call.
+fn again(alloc: Global, records: &[Record<Global>]) -> Result<StoredLog<Global>, Fail> {
+    if records.len() > limits::LOG_RECORDS {
+        return Err("too many".into());
+    }
+    let mut sink = Sink {
+        kept: Vec::new(alloc),
+        most: 100,
+        calls: 1_000,
+    };
+    encode_to(alloc, &mut sink, &HEADER, records)?;
+    let mut source = Source {
+        left: sink.kept,
+        most: 1_000,
+        calls: 1_000,
+    };
+    Ok(read_log_from(alloc, &mut source)?)
+}
+
+/// Each record on a line.
+fn lines_of(alloc: Global, records: &[Record<Global>]) -> Result<String<Global>, Fail> {
+    let mut text = String::new(alloc);
+    for record in records {
+        text.push_str(format!(in alloc; "{record:?}\n")?.as_str())?;
+    }
+    Ok(text)
+}
+
+#[test]
+fn written_and_read_again(rt: HostRuntime) -> Result<(), Fail> {
+    let records = each_kind(rt.alloc())?;
+    let log = again(rt.alloc(), records.as_slice())?;
+    assert_eq!(rt;
+        (log.version, log.header, log.ending, log.records.len()),
+        (Version::Two, HEADER, Ending::Clean, 8)
+    );
+    let found = lines_of(rt.alloc(), log.records.as_slice())?;
+    let wanted = lines_of(rt.alloc(), records.as_slice())?;
+    assert_eq!(rt; found.as_str(), wanted.as_str());
+    Ok(())
 }

@@ -25,7 +25,7 @@ const RANGES: [(u16, u16, usize, u8, usize, bool); 12] = [
 fn values(alloc: Global, len: usize) -> Result<Sequence<Value<Global>, Global>, Fail> {
     let mut made = Vec::new(alloc);
     for _ in 0..len {
-        made.push(Value::empty(alloc))?;
+        made.push(Value::empty())?;
     }
     Ok(Sequence::new(made))
 }

@@ -181,6 +181,15 @@ fn first_bad_forms(rt: HostRuntime) -> Result<(), Fail> {
 fn second_altered(rt: HostRuntime) -> Result<(), Fail> {
     let alloc = rt.alloc();
     let bytes = seal(alloc, &counted(alloc, 65)?)?;
+    for place in 0..8 {
+        let found = turned(alloc, bytes.as_slice(), place)?;
+        assert_eq!(rt; found, Some(ReadError::NotAnImage), "byte {place}");
+    }
+    let first = altered(alloc, bytes.as_slice(), 7, b'1')?;
+    assert_eq!(rt;
+        refusal(alloc, first.as_slice()),
+        Some(ReadError::BadDigest)
+    );
     for place in 8..69 {
         let found = turned(alloc, bytes.as_slice(), place)?;
         assert_eq!(rt; found, Some(ReadError::BadBlock(0)), "byte {place}");

@@ -35,9 +35,7 @@ fn entry_of<A: Allocator>(alloc: A, most: usize, piece: &Piece<'_>) -> Result<En
     let cell = match piece.cell {
         None => None,
         Some(bytes) if bytes.len() > most => return Err(ReadError::BadForm),
-        Some(bytes) => {
-            Some(Value::new(Vec::from_slice(alloc, bytes)?).ok_or(ReadError::BadForm)?)
-        }
+        Some(bytes) => Some(Value::from_slice(alloc, bytes)?.ok_or(ReadError::BadForm)?),
     };
     Ok(Entry { key, cell })
 }

@@ -67,7 +67,7 @@ const CAPTURES: [(Kind, u64, u64, &[Given], Option<&[Given]>); 6] = [
 
 fn entry(alloc: Global, given: Given) -> Result<Entry<Global>, Fail> {
     let cell = match given.1 {
-        Some(number) => Some(Value::of_number(alloc, number)?),
+        Some(number) => Some(Value::of_number(number)),
         None => None,
     };
     Ok(Entry {
@@ -171,7 +171,7 @@ fn table(alloc: Global, given: &[(u8, u64)]) -> Result<Table<Global>, Fail> {
     let mut pairs = Vec::new(alloc);
     for (letter, number) in given {
         let key = Key::new(&[*letter]).ok_or("no key")?;
-        pairs.push((key, Value::of_number(alloc, *number)?))?;
+        pairs.push((key, Value::of_number(*number)))?;
     }
     Ok(Table::from_pairs(alloc, Sequence::new(pairs))?)
 }
@@ -253,11 +253,7 @@ fn longest_chain(rt: HostRuntime) -> Result<(), Fail> {
 fn range(alloc: Global, from: u32, count: u32, gone: bool) -> Result<Vec<Entry<Global>>, Fail> {
     let mut made = Vec::new(alloc);
     for number in from..from.saturating_add(count) {
-        let cell = if gone {
-            None
-        } else {
-            Some(Value::empty(alloc))
-        };
+        let cell = if gone { None } else { Some(Value::empty()) };
         let key = Key::new(&number.to_be_bytes()).ok_or("no key")?;
         made.push(Entry { key, cell })?;
     }

@@ -94,6 +94,30 @@ fn readers_without(readers: u64, session: usize) -> Option<Holders>
     }
 }
 
+/// In which mode, if any, a session is among readers.
+fn mode_of_reader(readers: u64, session: usize) -> Option<Mode>
+    requires { session < SESSIONS }
+    ensures { result ≡ mode_in (Holders.Readers readers) session }
+{
+    if (readers >> session) & 1 == 1 {
+        Some(Mode::Shared)
+    } else {
+        None
+    }
+}
+
+/// In which mode a session holds a key that has these holders, if it does.
+pub(crate) fn mode_among(holders: Option<Holders>, session: usize) -> Option<Mode>
+    requires { session < SESSIONS }
+    ensures { result ≡ mode_among holders session }
+{
+    match holders {
+        Some(Holders::Readers(readers)) => mode_of_reader(readers, session),
+        Some(Holders::Writer(writer)) if writer == session => Some(Mode::Exclusive),
+        Some(Holders::Writer(_)) | None => None,
+    }
+}
+
 /// Whether a key has no holders.
 pub(crate) fn is_nobody(holders: Option<Holders>) -> bool
     ensures { IsTrue result ↔ (holders ≡ None) }

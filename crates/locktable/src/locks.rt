@@ -7,7 +7,7 @@ ghost use Rattle.locktable.specs.Modes.{IsAtMost, stronger};
 ghost use Rattle.locktable.specs.Tables.{locks_in};
 
 use crate::errors::LockError;
-use crate::holders::{Holders, granted, is_nobody, weakened};
+use crate::holders::{Holders, granted, is_nobody, mode_among, weakened};
 use crate::indexes::KeyIndex;
 use crate::modes::{Mode, keeps_asked};
 use procedure::limits::SESSIONS;
@@ -112,27 +112,34 @@ impl<A: Allocator> LockTable<A> {
     }
 
     /// A session asks for a key. Where it is granted, the session holds the key in the stronger of
-    /// the mode that it held and the mode that it asked for.
+    /// the mode that it held, which is returned, and the mode that it asked for.
     ///
     /// `Conflict` comes exactly where another session holds the key and one of the two is to be
     /// exclusive; then `NoMemory` may come, but not where the session holds the key already.
-    pub fn request(&mut self, session: usize, key: &Key, mode: Mode) -> Result<(), LockError>
+    pub fn request(
+        &mut self,
+        session: usize,
+        key: &Key,
+        mode: Mode,
+    ) -> Result<Option<Mode>, LockError>
         requires { session < SESSIONS }
+        ensures before { IfOk result (λ before. before ≡ mode_of self.old session key.now) }
         ensures granted { OnOk result (self.new ≡ with_lock self.old session key.now (Some (stronger (mode_of self.old session key.now) mode))) }
         ensures refused { OnErr result (self.new ≡ self.old) }
         ensures conflict { result ≡ Err LockError.Conflict ↔ Conflicts self.old session key.now mode }
         ensures memory { IsSome (mode_of self.old session key.now) → result ≢ Err LockError.NoMemory }
     {
-        let held = self.mode_of(session, key);
+        let before = self.holders.get(key);
+        let held = mode_among(before, session);
         if keeps_asked(held, mode) {
-            return Ok(());
+            return Ok(held);
         }
-        let Some(holders) = granted(self.holders.get(key), session, mode) else {
+        let Some(holders) = granted(before, session, mode) else {
             return Err(LockError::Conflict);
         };
         let own = &mut self.held[session];
         take(&mut self.holders, own, key, held, holders, mode)?;
-        Ok(())
+        Ok(held)
     }
 
     /// A session holds a key again as it did before a request that it was granted: in the mode in

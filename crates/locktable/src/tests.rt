@@ -170,7 +170,10 @@ fn give_back(
 
 fn take(rt: &impl Abort, table: &mut LockTable<Global>, key: &Key, step: Step) -> Result<(), Fail> {
     match step {
-        Asks(who, mode) => table.request(number(who), key, mode)?,
+        Asks(who, mode) => {
+            let held = table.mode_of(number(who), key);
+            assert_eq!(rt; table.request(number(who), key, mode)?, held);
+        }
         Refused(who, mode) => {
             let answer = table.request(number(who), key, mode);
             assert_eq!(rt; answer, Err(LockError::Conflict));

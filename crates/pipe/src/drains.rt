@@ -39,8 +39,8 @@ impl<A: Allocator> Drain<A> {
         Drain { consumer, kept }
     }
 
-    // Takes an entry, where one is found, and keeps it last.
-    fn draw(&mut self) -> bool
+    /// Takes an entry, where one is found, and keeps it last.
+    pub(crate) fn draw(&mut self) -> bool
         ensures ring { SameDrain self.old self.new }
         ensures taken { MatchBool result ((entry : _) × Takes self.old entry self.new) (TakesNothing self.old self.new) }
     {

@@ -37,7 +37,7 @@ const ALL: [Option<(u8, u64)>; 3] = [Some((b'x', 1)), Some((b'y', 2)), None];
 fn entry(alloc: Global, letter: u8, number: u64) -> Result<Entry<Global>, Fail> {
     Ok(Entry {
         key: Key::new(&[letter]).ok_or("no key")?,
-        cell: Some(Value::of_number(alloc, number)?),
+        cell: Some(Value::of_number(number)),
     })
 }
 

@@ -75,7 +75,7 @@ fn take_within<A: Allocator>(drain: Drain<A>, count: usize, turns: u64) -> Drain
     let mut count = count;
     let mut turns = turns;
     while count > 0 && turns > 0 {
-        if drain.take().is_some() {
+        if drain.draw() {
             count -= 1;
         } else {
             turns -= 1;

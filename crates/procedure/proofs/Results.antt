@@ -15,3 +15,8 @@ if_ok P Q f (Err e) p = tt
 pub if_done : {T E : Type 0} {P Q : Type 0} → (P → Q) → (r : Result T E) → OnOk r P → OnOk r Q
 if_done f (Ok x) p = f p
 if_done f (Err e) p = tt
+
+-- what follows of a refusal follows where there is one
+pub if_refused : {T E : Type 0} {P Q : Type 0} → (P → Q) → (r : Result T E) → OnErr r P → OnErr r Q
+if_refused f (Ok x) p = tt
+if_refused f (Err e) p = f p

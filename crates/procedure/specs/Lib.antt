@@ -1,4 +1,5 @@
 pub mod Bytes
+pub mod Values
 pub mod Keys
 pub mod Table
 pub mod Needs

@@ -81,11 +81,11 @@ write_access None b = access.Nothing
 write_access (Some k) false = access.Nothing
 write_access (Some k) true = access.Writes k
 
--- where an instruction that is carried out copies or makes a value: it reads, or touches no key
+-- where an instruction that is carried out copies a value: it reads
 abbrev pub CopiesValue : Need Bytes → Type 0
 CopiesValue (Read k) = Unit {0}
 CopiesValue (Write k u) = ⊥
-CopiesValue Own = Unit {0}
+CopiesValue Own = ⊥
 CopiesValue (Ended c) = ⊥
 
 -- where a need carries a value

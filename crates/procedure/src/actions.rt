@@ -1,6 +1,6 @@
 //! What one instruction asks for and does, over the arguments and registers of a call.
 
-ghost use Rattle.std.specs.Prelude.{◌≡◌, ◌+◌, ◌-◌, ◌<◌, ◌^◌, Some, None, IfOk, OnErr, option_copied, slice_set, List};
+ghost use Rattle.std.specs.Prelude.{◌≡◌, ◌+◌, ◌-◌, ◌<◌, ◌^◌, Some, None, IfOk, OnErr, IsSome, option_copied, slice_set, List};
 ghost use Rattle.procedure.specs.Bytes.{Cell};
 ghost use Rattle.procedure.specs.Procedures.{operand_value, as_key, as_number, same_cell, below_cell, holds, need, effect, adding, subtracting, reading, putting, inserting, deleting};
 ghost use Rattle.procedure.specs.Needs.{HasValue, CopiesValue, accessed, write_access};
@@ -180,52 +180,35 @@ fn copy_of<A: Allocator + Clone>(cell: Option<&Value<A>>) -> Result<Option<Value
 }
 
 /// A register takes a number, or the call ends where there is none.
-fn number_action<A: Allocator + Clone>(
-    alloc: &A,
-    register: u8,
-    number: Option<u64>,
-) -> Result<Action<Value<A>>, NoMemory>
-    ensures { IfOk result
-        (λ a. (registers : List Cell) → effect_of a registers None ≡ number_set registers register number) }
+fn number_action<A: Allocator>(register: u8, number: Option<u64>) -> Action<Value<A>>
+    ensures { (registers : List Cell) →
+        effect_of result registers None ≡ number_set registers register number }
 {
     match number {
-        Some(number) => {
-            let value = Value::of_number(alloc.clone()?, number)?;
-            Ok(Action::Set(register, Some(value)))
-        }
-        None => Ok(Action::End(OUT_OF_RANGE)),
+        Some(number) => Action::Set(register, Some(Value::of_number(number))),
+        None => Action::End(OUT_OF_RANGE),
     }
 }
 
 #[tactic(auto, using(crate::proofs::Arithmetic::number_set_sum))]
-fn add_action<A: Allocator + Clone>(
-    alloc: &A,
-    register: u8,
-    x: Option<u64>,
-    y: Option<u64>,
-) -> Result<Action<Value<A>>, NoMemory>
-    ensures { IfOk result
-        (λ a. (registers : List Cell) → effect_of a registers None ≡ adding registers register x y) }
+fn add_action<A: Allocator>(register: u8, x: Option<u64>, y: Option<u64>) -> Action<Value<A>>
+    ensures { (registers : List Cell) →
+        effect_of result registers None ≡ adding registers register x y }
 {
     match (x, y) {
-        (Some(x), Some(y)) => number_action(alloc, register, x.checked_add(y)),
-        _ => Ok(Action::End(NOT_A_NUMBER)),
+        (Some(x), Some(y)) => number_action(register, x.checked_add(y)),
+        _ => Action::End(NOT_A_NUMBER),
     }
 }
 
 #[tactic(auto, using(crate::proofs::Arithmetic::number_set_difference))]
-fn sub_action<A: Allocator + Clone>(
-    alloc: &A,
-    register: u8,
-    x: Option<u64>,
-    y: Option<u64>,
-) -> Result<Action<Value<A>>, NoMemory>
-    ensures { IfOk result
-        (λ a. (registers : List Cell) → effect_of a registers None ≡ subtracting registers register x y) }
+fn sub_action<A: Allocator>(register: u8, x: Option<u64>, y: Option<u64>) -> Action<Value<A>>
+    ensures { (registers : List Cell) →
+        effect_of result registers None ≡ subtracting registers register x y }
 {
     match (x, y) {
-        (Some(x), Some(y)) => number_action(alloc, register, x.checked_sub(y)),
-        (None, _) | (_, None) => Ok(Action::End(NOT_A_NUMBER)),
+        (Some(x), Some(y)) => number_action(register, x.checked_sub(y)),
+        (None, _) | (_, None) => Action::End(NOT_A_NUMBER),
     }
 }
 
@@ -234,8 +217,9 @@ fn read_action<A: Allocator + Clone>(
     key: Option<Key>,
     found: Option<&Value<A>>,
 ) -> Result<Action<Value<A>>, NoMemory>
-    ensures { IfOk result
+    ensures value { IfOk result
         (λ a. (registers : List Cell) → effect_of a registers None ≡ reading registers register key (option_copied found.entry)) }
+    ensures memory { OnErr result (IsSome key) }
 {
     match key {
         Some(_) => Ok(Action::Load(register, copy_of(found)?, copy_of(found)?)),
@@ -284,10 +268,9 @@ fn delete_action<A: Allocator>(key: Option<Key>, found: Option<&Value<A>>) -> Ac
     }
 }
 
-/// What an instruction does to the machine, where its key holds `found`. Only one that reads or
-/// that touches no key takes memory.
+/// What an instruction does to the machine, where its key holds `found`. Only one that reads takes
+/// memory.
 pub(crate) fn action_of<A: Allocator + Clone>(
-    alloc: &A,
     instruction: &Instr<Value<A>>,
     args: &[Value<A>],
     registers: &[Option<Value<A>>],
@@ -313,11 +296,11 @@ pub(crate) fn action_of<A: Allocator + Clone>(
         Instr::Delete(key) => Ok(delete_action(key_of(value_of(key, args, registers)), found)),
         Instr::Add(register, x, y) => {
             let x = number_of(value_of(x, args, registers));
-            add_action(alloc, *register, x, number_of(value_of(y, args, registers)))
+            Ok(add_action(*register, x, number_of(value_of(y, args, registers))))
         }
         Instr::Sub(register, x, y) => {
             let x = number_of(value_of(x, args, registers));
-            sub_action(alloc, *register, x, number_of(value_of(y, args, registers)))
+            Ok(sub_action(*register, x, number_of(value_of(y, args, registers))))
         }
         Instr::AbortIf(test, code) => Ok(if test_holds(test, args, registers) {
             Action::End(*code)

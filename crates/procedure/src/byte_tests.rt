@@ -19,7 +19,7 @@ const DIGEST: [u8; 32] = [
     0x25, 0x98, 0xc3, 0x6f, 0x2a, 0x57, 0x09, 0x8b, 0xb3, 0x64, 0xf3, 0x3d, 0xbc, 0x0d, 0x31, 0xdf,
 ];
 
-type Code = Vec<Instr<Value<Global>>>;
+type Instructions = Vec<Instr<Value<Global>>>;
 
 fn literal(alloc: Global, bytes: &[u8]) -> Result<Operand<Value<Global>>, Fail> {
     let value = Value::new(Vec::from_slice(alloc, bytes)?).ok_or("too long")?;
@@ -27,7 +27,7 @@ fn literal(alloc: Global, bytes: &[u8]) -> Result<Operand<Value<Global>>, Fail> 
 }
 
 /// read r7 $0, put $1 'v, insert r0 $2, delete '
-fn push_accesses(alloc: Global, code: &mut Code) -> Result<(), Fail> {
+fn push_accesses(alloc: Global, code: &mut Instructions) -> Result<(), Fail> {
     code.push(Instr::Read(7, Operand::Arg(0)))?;
     code.push(Instr::Put(Operand::Arg(1), literal(alloc, b"v")?))?;
     code.push(Instr::Insert(Operand::Reg(0), Operand::Arg(2)))?;
@@ -36,7 +36,7 @@ fn push_accesses(alloc: Global, code: &mut Code) -> Result<(), Fail> {
 }
 
 /// add r1 $0 r2, sub r3 '12345678 $1
-fn push_sums(alloc: Global, code: &mut Code) -> Result<(), Fail> {
+fn push_sums(alloc: Global, code: &mut Instructions) -> Result<(), Fail> {
     code.push(Instr::Add(1, Operand::Arg(0), Operand::Reg(2)))?;
     let number = literal(alloc, b"12345678")?;
     code.push(Instr::Sub(3, number, Operand::Arg(1)))?;
@@ -44,7 +44,7 @@ fn push_sums(alloc: Global, code: &mut Code) -> Result<(), Fail> {
 }
 
 /// abort 16 absent r7, abort 255 equal $0 'xy, abort 17 below r1 $2
-fn push_aborts(alloc: Global, code: &mut Code) -> Result<(), Fail> {
+fn push_aborts(alloc: Global, code: &mut Instructions) -> Result<(), Fail> {
     let absent = Test::Absent(Operand::Reg(7));
     code.push(Instr::AbortIf(absent, 16))?;
     let equal = Test::Equal(Operand::Arg(0), literal(alloc, b"xy")?);
@@ -55,7 +55,7 @@ fn push_aborts(alloc: Global, code: &mut Code) -> Result<(), Fail> {
 }
 
 /// All seven instructions, with the three operands and the three tests.
-fn pushed(alloc: Global) -> Result<Code, Fail> {
+fn pushed(alloc: Global) -> Result<Instructions, Fail> {
     let mut code = Vec::new(alloc);
     push_accesses(alloc, &mut code)?;
     push_sums(alloc, &mut code)?;
@@ -63,17 +63,15 @@ fn pushed(alloc: Global) -> Result<Code, Fail> {
     Ok(code)
 }
 
-fn procedure(arity: u8, code: Code) -> Procedure<Global> {
-    Procedure {
-        arity,
-        code: Sequence::new(code),
-    }
+fn procedure(arity: u8, code: Instructions) -> Result<Procedure<Global>, Fail> {
+    let code = Code::new(code)?;
+    Ok(Procedure { arity, code })
 }
 
 fn catalog(alloc: Global) -> Result<Catalog<Global>, Fail> {
     let mut procedures = Vec::new(alloc);
-    procedures.push(procedure(0, Vec::new(alloc)))?;
-    procedures.push(procedure(3, pushed(alloc)?))?;
+    procedures.push(procedure(0, Vec::new(alloc))?)?;
+    procedures.push(procedure(3, pushed(alloc)?)?)?;
     Ok(Catalog::new(Sequence::new(procedures))?)
 }
 

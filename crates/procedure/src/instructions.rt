@@ -3,12 +3,13 @@
 //! Their literals are values of a type `V`: `Value<A>` in a program, and lists of bytes in the
 //! definitions of `specs/`, which so speak of no allocator.
 
-ghost use Rattle.std.specs.Prelude.{◌≡◌, IfOk};
+ghost use Rattle.std.specs.Prelude.{◌≡◌, ◌<◌, ◌↔◌, [], IfOk, IsSome, IsTrue, length, option_copied, slice_get};
 
 use crate::sequences::Sequence;
 use crate::values::Value;
 use std::alloc::{AllocError, Allocator};
 use std::marker::Model;
+use std::sync::ArcSlice;
 
 /// Where an instruction takes a value from.
 #[derive(Clone, Debug, Drop)]
@@ -51,11 +52,76 @@ pub enum Instr<V> {
     AbortIf(Test<V>, u8),
 }
 
+/// The instructions of a procedure, seen by contracts as the list of them. The catalog and the calls
+/// in their course share them, so a clone takes no memory; it is refused after 2^63 - 1 of them.
+#[derive(Debug, Drop)]
+pub struct Code<A: Allocator> {
+    instructions: ArcSlice<Instr<Value<A>>, A>,
+}
+
+impl<A: Allocator> Model for Code<A> {
+    ghost use Rattle.std.specs.Prelude.{List};
+    ghost use Rattle.std.specs.Arc.{arc_slice_items};
+    ghost use Rattle.procedure.specs.Procedures.{Instruction};
+
+    ghost Value = { List Instruction };
+
+    ghost view = { λ c. arc_slice_items c.instructions };
+}
+
+impl<A: Allocator> Code<A> {
+    pub fn new(instructions: Vec<Instr<Value<A>>, A>) -> Result<Self, AllocError>
+    where
+        A: Clone,
+        ensures { IfOk result (λ c. c ≡ instructions.items) }
+    {
+        Ok(Code {
+            instructions: ArcSlice::from_vec(instructions)?,
+        })
+    }
+
+    pub fn as_slice(&self) -> &[Instr<Value<A>>]
+        ensures { result.now ≡ self.now }
+    {
+        self.instructions.as_slice()
+    }
+
+    pub fn len(&self) -> usize
+        ensures { result ≡ length self.now }
+    {
+        self.instructions.len()
+    }
+
+    pub fn is_empty(&self) -> bool
+        ensures { IsTrue result ↔ (self.now ≡ []) }
+    {
+        self.as_slice().is_empty()
+    }
+
+    /// The instruction at an index, if there is one.
+    pub fn get(&self, index: usize) -> Option<&Instr<Value<A>>>
+        ensures value { option_copied result ≡ slice_get self.now index }
+        ensures within { IsSome result ↔ (index < length self.now) }
+    {
+        self.as_slice().get(index)
+    }
+}
+
+impl<A: Allocator> Clone for Code<A> {
+    ghost is_clone = { λ c d. d ≡ c };
+
+    fn clone(&self) -> Result<Self, AllocError> {
+        Ok(Code {
+            instructions: self.instructions.clone()?,
+        })
+    }
+}
+
 /// A stored procedure: how many arguments it takes, and its instructions.
 #[derive(Debug, Drop)]
 pub struct Procedure<A: Allocator> {
     pub arity: u8,
-    pub code: Sequence<Instr<Value<A>>, A>,
+    pub code: Code<A>,
 }
 
 impl<A: Allocator> Model for Procedure<A> {
@@ -66,35 +132,13 @@ impl<A: Allocator> Model for Procedure<A> {
     ghost view = { λ p. record { arity = p.arity; code = p.code } };
 }
 
-fn copy_of_instruction<A: Allocator + Clone>(
-    instruction: &Instr<Value<A>>,
-) -> Result<Instr<Value<A>>, AllocError>
-    ensures { IfOk result (λ i. i ≡ instruction.now) }
-{
-    instruction.clone()
-}
-
-fn copy_of_code<A: Allocator + Clone>(
-    alloc: A,
-    code: &[Instr<Value<A>>],
-) -> Result<Vec<Instr<Value<A>>, A>, AllocError>
-    ensures { IfOk result (λ c. c.items ≡ code.now) }
-{
-    let mut copy = Vec::with_capacity(alloc, code.len())?;
-    for instruction in code {
-        copy.push_reserved(copy_of_instruction(instruction)?);
-    }
-    Ok(copy)
-}
-
-impl<A: Allocator + Clone> Clone for Procedure<A> {
+impl<A: Allocator> Clone for Procedure<A> {
     ghost is_clone = { λ p q. q ≡ p };
 
     fn clone(&self) -> Result<Self, AllocError> {
-        let code = copy_of_code(self.code.allocator().clone()?, self.code.as_slice())?;
         Ok(Procedure {
             arity: self.arity,
-            code: Sequence::new(code),
+            code: self.code.clone()?,
         })
     }
 }

@@ -30,7 +30,7 @@ pub mod values;
 mod worked_runs;
 
 pub use catalogs::{Catalog, CatalogError};
-pub use instructions::{Call, Instr, Operand, Procedure, Test};
+pub use instructions::{Call, Code, Instr, Operand, Procedure, Test};
 pub use keys::Key;
 pub use machines::Machine;
 pub use memory::NoMemory;

@@ -5,7 +5,7 @@ ghost use Rattle.procedure.specs.Needs.{CopiesValue, HasValue, accessed};
 ghost use Rattle.procedure.specs.Runs.{advanced, at_start, next_need};
 
 use crate::actions::{Action, access_of, action_of, need_of};
-use crate::instructions::{Instr, Procedure};
+use crate::instructions::{Code, Procedure};
 use crate::limits::REGISTERS;
 use crate::memory::NoMemory;
 use crate::needs::{Access, Need};
@@ -22,8 +22,7 @@ use std::marker::Model;
 /// instructions of several calls may be executed in any order.
 #[derive(Drop)]
 pub struct Machine<A: Allocator> {
-    alloc: A,
-    code: Sequence<Instr<Value<A>>, A>,
+    code: Code<A>,
     args: Sequence<Value<A>, A>,
     place: usize,
     registers: Vec<Option<Value<A>>, A>,
@@ -67,8 +66,8 @@ fn set_register<A: Allocator>(
 }
 
 impl<A: Allocator + Clone> Machine<A> {
-    /// A machine at the start of a call. It copies the procedure and makes room for all replies, so
-    /// that no step needs any. An argument that the procedure names and that isn't there is absent.
+    /// A machine at the start of a call. It shares the procedure's code and makes room for all replies,
+    /// so that no step needs any. An argument that the procedure names and that isn't there is absent.
     pub fn start(
         alloc: A,
         procedure: &Procedure<A>,
@@ -76,11 +75,10 @@ impl<A: Allocator + Clone> Machine<A> {
     ) -> Result<Self, NoMemory>
         ensures { IfOk result (λ m. m ≡ record { args = args; progress = at_start procedure.now.code }) }
     {
-        let Procedure { arity: _, code } = procedure.clone()?;
+        let code = procedure.code.clone()?;
         let registers = absent_registers(alloc.clone()?)?;
-        let replies = Vec::with_capacity(alloc.clone()?, code.len())?;
+        let replies = Vec::with_capacity(alloc, code.len())?;
         Ok(Machine {
-            alloc,
             code,
             args,
             place: 0,
@@ -107,8 +105,7 @@ impl<A: Allocator + Clone> Machine<A> {
     }
 
     /// Executes the next instruction, where its key holds `found` (None where it touches no key).
-    /// Only an instruction that reads, or that touches no key, takes memory. A call that has ended
-    /// stays as it is.
+    /// Only an instruction that reads takes memory. A call that has ended stays as it is.
     pub fn fed(&mut self, found: Option<&Value<A>>) -> Result<(), NoMemory>
         ensures ok { OnOk result (self.new ≡ record self.old {
           progress = advanced self.old.args self.old.progress (option_copied found.entry);
@@ -122,7 +119,7 @@ impl<A: Allocator + Clone> Machine<A> {
         };
         let args = self.args.as_slice();
         let registers = self.registers.as_slice();
-        match action_of(&self.alloc, instruction, args, registers, found)? {
+        match action_of(instruction, args, registers, found)? {
             Action::Set(register, cell) => {
                 set_register(&mut self.registers, register, cell);
                 self.place += 1;

@@ -8,7 +8,7 @@ use std::test::Fail;
 
 type Literal = Value<Global>;
 
-type Code = Vec<Instr<Literal>>;
+type Instructions = Vec<Instr<Literal>>;
 
 /// An argument of a row: a text, or a number of 8 bytes.
 #[derive(Clone, Copy)]
@@ -47,11 +47,9 @@ fn long(alloc: Global, len: usize) -> Result<Vec<u8>, Fail> {
     Ok(vec![in alloc; 7u8; len]?)
 }
 
-fn procedure(arity: u8, code: Code) -> Procedure<Global> {
-    Procedure {
-        arity,
-        code: Sequence::new(code),
-    }
+fn procedure(arity: u8, code: Instructions) -> Result<Procedure<Global>, Fail> {
+    let code = Code::new(code)?;
+    Ok(Procedure { arity, code })
 }
 
 fn arg(index: u8) -> Operand<Literal> {
@@ -62,7 +60,7 @@ fn reg(index: u8) -> Operand<Literal> {
     Operand::Reg(index)
 }
 
-fn deposit(alloc: Global) -> Result<Code, Fail> {
+fn deposit(alloc: Global) -> Result<Instructions, Fail> {
     Ok(vec![in alloc;
         Instr::Read(0, arg(0)),
         Instr::AbortIf(Test::Absent(reg(0)), 16),
@@ -71,7 +69,7 @@ fn deposit(alloc: Global) -> Result<Code, Fail> {
     ]?)
 }
 
-fn transfer(alloc: Global) -> Result<Code, Fail> {
+fn transfer(alloc: Global) -> Result<Instructions, Fail> {
     Ok(vec![in alloc;
         Instr::Read(0, arg(0)),
         Instr::Read(1, arg(1)),
@@ -85,16 +83,16 @@ fn transfer(alloc: Global) -> Result<Code, Fail> {
 /// The procedures of the examples: get, new, deposit, move, set, delete, swap.
 pub(crate) fn examples(alloc: Global) -> Result<Catalog<Global>, Fail> {
     let procedures = vec![in alloc;
-        procedure(1, vec![in alloc; Instr::Read(0, arg(0))]?),
-        procedure(2, vec![in alloc; Instr::Insert(arg(0), arg(1))]?),
-        procedure(2, deposit(alloc)?),
-        procedure(3, transfer(alloc)?),
-        procedure(2, vec![in alloc; Instr::Put(arg(0), arg(1))]?),
-        procedure(1, vec![in alloc; Instr::Delete(arg(0))]?),
+        procedure(1, vec![in alloc; Instr::Read(0, arg(0))]?)?,
+        procedure(2, vec![in alloc; Instr::Insert(arg(0), arg(1))]?)?,
+        procedure(2, deposit(alloc)?)?,
+        procedure(3, transfer(alloc)?)?,
+        procedure(2, vec![in alloc; Instr::Put(arg(0), arg(1))]?)?,
+        procedure(1, vec![in alloc; Instr::Delete(arg(0))]?)?,
         procedure(
             2,
             vec![in alloc; Instr::Read(0, arg(0)), Instr::Put(arg(0), arg(1))]?
-        ),
+        )?,
     ]?;
     Ok(Catalog::new(Sequence::new(procedures))?)
 }
@@ -107,7 +105,7 @@ pub(crate) fn arguments(
     for one in given {
         args.push(match *one {
             Given::Text(text) => value(alloc, text)?,
-            Given::Number(number) => Value::of_number(alloc, number)?,
+            Given::Number(number) => Value::of_number(number),
         })?;
     }
     Ok(Sequence::new(args))
@@ -117,7 +115,7 @@ pub(crate) fn table(alloc: Global, pairs: &[(u8, u64)]) -> Result<Table<Global>,
     let mut made = Vec::new(alloc);
     for (key, number) in pairs {
         let key = Key::new(&[*key]).ok_or("no key")?;
-        made.push((key, Value::of_number(alloc, *number)?))?;
+        made.push((key, Value::of_number(*number)))?;
     }
     Ok(Table::from_pairs(alloc, Sequence::new(made))?)
 }
@@ -136,7 +134,7 @@ pub(crate) fn numbers(
 
 /// The catalog of `get` alone.
 fn get_alone(alloc: Global) -> Result<Catalog<Global>, Fail> {
-    let get = procedure(1, vec![in alloc; Instr::Read(0, arg(0))]?);
+    let get = procedure(1, vec![in alloc; Instr::Read(0, arg(0))]?)?;
     Ok(Catalog::new(Sequence::new(vec![in alloc; get]?))?)
 }
 
@@ -168,8 +166,8 @@ fn digest_of_a_catalog(rt: HostRuntime) -> Result<(), Fail> {
     Ok(())
 }
 
-fn refused(alloc: Global, arity: u8, code: Code) -> Result<Option<CatalogError>, Fail> {
-    let one = vec![in alloc; procedure(arity, code)]?;
+fn refused(alloc: Global, arity: u8, code: Instructions) -> Result<Option<CatalogError>, Fail> {
+    let one = vec![in alloc; procedure(arity, code)?]?;
     Ok(Catalog::new(Sequence::new(one)).err())
 }
 
@@ -178,7 +176,7 @@ fn refused_catalogs(rt: HostRuntime) -> Result<(), Fail> {
     let alloc = rt.alloc();
     let mut many = Vec::new(alloc);
     for _ in 0..PROCEDURES + 1 {
-        many.push(procedure(0, Vec::new(alloc)))?;
+        many.push(procedure(0, Vec::new(alloc))?)?;
     }
     let too_many = Catalog::new(Sequence::new(many)).err();
     assert_eq!(rt; too_many, Some(CatalogError::TooMany));
@@ -288,14 +286,14 @@ fn numbers_of_values(rt: HostRuntime) -> Result<(), Fail> {
     for (bytes, number) in NUMBERS {
         assert_eq!(rt; number_in(rt.alloc(), bytes)?, number);
     }
-    let bytes = Value::of_number(rt.alloc(), 258)?.into_bytes();
-    assert_eq!(rt; bytes.as_slice(), b"\0\0\0\0\0\0\x01\x02".as_slice());
+    let value = Value::<Global>::of_number(258);
+    assert_eq!(rt; value.as_bytes(), b"\0\0\0\0\0\0\x01\x02".as_slice());
     Ok(())
 }
 
 #[test]
 fn empty_ones(rt: HostRuntime) {
-    assert!(rt; Value::empty(rt.alloc()).as_bytes().is_empty());
+    assert!(rt; Value::<Global>::empty().as_bytes().is_empty());
     assert!(rt; Sequence::<u8, Global>::empty(rt.alloc()).len() == 0);
 }
 
@@ -411,16 +409,13 @@ fn emptied_table(rt: HostRuntime) -> Result<(), Fail> {
 fn inserting(alloc: Global) -> Result<Catalog<Global>, Fail> {
     // new(key, value): insert $0 $1
     let code = vec![in alloc; Instr::Insert(Operand::Arg(0), Operand::Arg(1))]?;
-    let new = Procedure {
-        arity: 2,
-        code: Sequence::new(code),
-    };
+    let new = procedure(2, code)?;
     Ok(Catalog::new(Sequence::new(vec![in alloc; new]?))?)
 }
 
 fn key_and_number(alloc: Global) -> Result<Sequence<Literal, Global>, Fail> {
     let key = Value::new(vec![in alloc; b'a']?).ok_or("too long")?;
-    let args = vec![in alloc; key, Value::of_number(alloc, 5)?]?;
+    let args = vec![in alloc; key, Value::of_number(5)]?;
     Ok(Sequence::new(args))
 }
 

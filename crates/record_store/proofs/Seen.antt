@@ -1,9 +1,10 @@
 -- What is seen of an entry under the store's number.
 use Rattle.std.proofs.Common.{◌≡◌, ◌≢◌, ℕ, ◌<◌, ◌≤◌, ◌==◌, Bool, true, false, Option, Some, None, option_map, refl, arith}
+use Rattle.procedure.specs.Bytes.{Cell}
 use Rattle.record_store.specs.Stores.{with_stable, with_available, with_copy, stable_of}
 use Rattle.record_store.specs.Entries.{seen, stable_in, with_entry_stable, with_entry_copy, with_entry_mark}
 use Rattle.record_store.specs.Fields.{mark_of}
-use Rattle.record_store.specs.declared.records.Stable.TheVariants.{Empty}
+use Rattle.record_store.specs.declared.records.Stable.TheVariants.{Empty, Was}
 use Rattle.record_store.specs.declared.records.Entry.{Entry}
 
 pub not_same : (m n : ℕ) → m ≢ n → (m == n) ≡ false
@@ -15,6 +16,9 @@ same_self n = grind arith
 module _ {A : Type 0} where
   pub seen_erased : (number : ℕ) (e : Entry A) → 0 < number → seen number (with_entry_stable None 0 e) ≡ with_stable Empty (seen number e)
   seen_erased number e positive = simp (not_same 0 number (omega arith))
+
+  pub seen_put : (number : ℕ) (stable : Cell) (e : Entry A) → seen number (with_entry_stable stable number e) ≡ with_stable (Was stable) (seen number e)
+  seen_put number stable e = simp (same_self number)
 
   pub seen_copied : (number : ℕ) (e : Entry A) → seen number (with_entry_copy number e) ≡ with_copy (seen number e)
   seen_copied number e = simp (same_self number)

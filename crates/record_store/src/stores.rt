@@ -9,8 +9,11 @@ ghost use Rattle.record_store.specs.DeadKeys.{SameOffers};
 ghost use Rattle.record_store.specs.Entries.{lent_record, made};
 ghost use Rattle.record_store.specs.Fields.{mark_of};
 ghost use Rattle.record_store.specs.Stores.{Finds, IsLeastCandidate, HasKeysOnce, record_at_rest, changed, key_at, live_at, new_record, reclaimed, record_at, records, stable_at, with_available, with_aside, with_copy, with_live, with_record, with_stable};
-ghost use Rattle.record_store.specs.declared.records.Stable.TheVariants.{Empty};
+ghost use Rattle.record_store.specs.declared.records.Stable.TheVariants.{Empty, Was};
 ghost use Rattle.record_store.specs.declared.stores.CreateError.TheVariants.{TableFull};
+
+#[cfg(test)]
+mod number_tests;
 
 use crate::dead_keys::DeadKeys;
 use crate::limits::STORE_RECORDS;
@@ -169,6 +172,13 @@ impl<A: Allocator> Store<A> {
         ensures changed { self.new ≡ changed (with_stable Empty) self.old slot }
     {
         records::take_stable(&mut self.slots, slot, self.number)
+    }
+
+    /// Puts a stable version back that was taken. It takes no memory.
+    pub fn put_stable(&mut self, slot: usize, stable: Option<Value<A>>)
+        ensures { self.new ≡ changed (with_stable (Was stable)) self.old slot }
+    {
+        records::set_stable(&mut self.slots, slot, stable, self.number);
     }
 
     pub fn set_available(&mut self, slot: usize, available: bool)

@@ -15,7 +15,7 @@ fn key(n: u32) -> Result<Key, Fail> {
 }
 
 fn value(alloc: Global, n: u64) -> Result<Option<Value<Global>>, Fail> {
-    Ok(Some(Value::of_number(alloc, n)?))
+    Ok(Some(Value::of_number(n)))
 }
 
 fn number(cell: Option<&Value<Global>>) -> Option<u64> {

@@ -57,7 +57,7 @@ fn write(
 ) -> Result<Record<Global>, Fail> {
     let mut args = Vec::new(alloc);
     args.push(Value::new(Vec::from_slice(alloc, &key.to_be_bytes())?).ok_or("too long")?)?;
-    args.push(Value::of_number(alloc, number)?)?;
+    args.push(Value::of_number(number))?;
     let call = Call {
         session: 0,
         number,

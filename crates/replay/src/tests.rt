@@ -4,7 +4,9 @@ use super::*;
 use commitlog::{LogHeader, Record, encode};
 use image::{Entry, Image, Kind};
 use phase::Phase;
-use procedure::{Call, Catalog, Instr, Key, NoMemory, Operand, Procedure, Sequence, Table, Value};
+use procedure::{
+    Call, Catalog, Code, Instr, Key, NoMemory, Operand, Procedure, Sequence, Table, Value,
+};
 use std::alloc::Global;
 use std::process::Abort;
 use std::test::Fail;
@@ -243,7 +245,7 @@ fn procedure(
     code.push(instruction)?;
     Ok(Procedure {
         arity,
-        code: Sequence::new(code),
+        code: Code::new(code)?,
     })
 }
 
@@ -268,7 +270,7 @@ fn image(alloc: Global, number: u64, place: u64, held: Option<u64>) -> Result<Im
     if let Some(held) = held {
         entries.push(Entry {
             key: Key::new(b"a").ok_or("no key")?,
-            cell: Some(Value::of_number(alloc, held)?),
+            cell: Some(Value::of_number(held)),
         })?;
     }
     Ok(Image::new(Kind::Full, number, number, place, entries).ok_or("not lawful")?)
@@ -284,7 +286,7 @@ fn call(
     let mut args = Vec::new(alloc);
     args.push(text(alloc, key)?)?;
     if let Some(given) = given {
-        args.push(Value::of_number(alloc, given)?)?;
+        args.push(Value::of_number(given))?;
     }
     Ok(Call {
         session: 0,
@@ -300,7 +302,7 @@ fn replies(
 ) -> Result<Sequence<Option<Value<Global>>, Global>, NoMemory> {
     let mut replied = Vec::new(alloc);
     if let Some(number) = number {
-        replied.push(Some(Value::of_number(alloc, number)?))?;
+        replied.push(Some(Value::of_number(number)))?;
     }
     Ok(Sequence::new(replied))
 }
@@ -446,6 +448,32 @@ fn refused_before(rt: HostRuntime) -> Result<(), Fail> {
     assert_eq!(rt; damaged, Some(RecoverError::Damaged(1)));
     let twice = refused(rt.alloc(), &[0, 1], &SECOND)?;
     assert_eq!(rt; twice, Some(RecoverError::NotPartial(0)));
+    Ok(())
+}
+
+/// Why these bytes don't pass with the empty opening.
+fn unpassed(alloc: Global, bytes: &[u8]) -> Result<Option<AuditError>, Fail> {
+    let opening = image(alloc, 0, 0, None)?;
+    Ok(audited(alloc, &catalog(alloc)?, &opening, bytes).err())
+}
+
+/// How many bytes of the log are left, which of them is altered, and why they don't pass.
+const UNPASSED: [(usize, usize, Option<AuditError>); 5] = [
+    (203, 80, Some(AuditError::Damaged(0))),
+    (203, 202, Some(AuditError::Damaged(1))),
+    (203, 0, Some(AuditError::NotALog)),
+    (71, 70, Some(AuditError::NotALog)),
+    (0, 202, Some(AuditError::NotALog)),
+];
+
+#[test]
+fn unpassed_logs(rt: HostRuntime) -> Result<(), Fail> {
+    for (left, at, wanted) in UNPASSED {
+        let mut altered = SECOND;
+        altered[at] ^= 1;
+        let found = unpassed(rt.alloc(), &altered[..left])?;
+        assert_eq!(rt; found, wanted, "{left} bytes, {at}");
+    }
     Ok(())
 }
 

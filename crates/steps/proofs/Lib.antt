@@ -1,3 +1,4 @@
+pub mod Marked
 pub mod log
 pub mod machine
 pub mod phases

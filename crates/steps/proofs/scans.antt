@@ -2,4 +2,6 @@
 pub mod ScanPlaces
 pub mod CapturingCore
 pub mod CompletedImage
+pub mod SentEntries
+pub mod SharedDigests
 pub mod VisitCounts

@@ -7,8 +7,10 @@ use Rattle.phase.specs.declared.phases.Phase.TheVariants.{Rest, Prepare, Resolve
 use Rattle.commitlog.specs.Cuts.{cut, finished_below, written}
 use Rattle.commitlog.specs.Histories.{number_of}
 use Rattle.commitlog.specs.Records.{Token}
+use Rattle.image.specs.Headers.{FitsHeader, assembled}
 use Rattle.image.specs.Images.{Image}
 use Rattle.image.specs.Merges.{table_of}
+use Rattle.image.specs.declared.headers.Header.{Header}
 use Rattle.image.specs.declared.images.Kind.{Kind}
 use Rattle.image.specs.declared.images.Kind.TheVariants.{Full, Partial}
 use Rattle.record_store.specs.ChangedSets.{KeySet, count, has, keys_of}
@@ -16,6 +18,8 @@ use Rattle.record_store.specs.Stores.{record_at_rest, key_at}
 use Rattle.steps.specs.CoreViews.{CoreView, Underway}
 use Rattle.steps.specs.CutImages.{IsCutOf}
 use Rattle.steps.specs.Versions.{given_of, kept_of, versions_in, KeyVersions, captured_at}
+use Rattle.steps.specs.declared.checkpoints.Way.{Way}
+use Rattle.steps.specs.declared.checkpoints.Way.TheVariants.{Streamed, Whole}
 use Rattle.steps.specs.declared.captures.Captured.{Captured}
 use Rattle.steps.specs.declared.captures.Captured.TheVariants.{Slot, Done}
 
@@ -29,9 +33,9 @@ with_token v p n = record v { log = v.log ++ Token p n ∷ [] }
 abbrev pub entered : CoreView → Phase → CoreView
 entered v p = with_token v p (number_of v.log)
 
--- a checkpoint of this kind begins
-abbrev pub started : CoreView → Kind → CoreView
-started v kind = record (with_token v Prepare (suc (number_of v.log))) { checkpoint = record v.checkpoint { kind = kind } }
+-- a checkpoint of this kind begins, whose entries leave in this way
+abbrev pub started : CoreView → Kind → Way → CoreView
+started v kind way = record (with_token v Prepare (suc (number_of v.log))) { checkpoint = record v.checkpoint { kind = kind; way = way } }
 
 -- every record is not available, and has no stable version
 abbrev pub rested_core : CoreView → CoreView
@@ -70,8 +74,8 @@ pub record Visits (old new : CoreView) : Type 0 where
     slots = new.slots;
     checkpoint = record old.checkpoint {
       cursor = suc old.checkpoint.cursor;
-      captured =
-          old.checkpoint.captured ++ kept_of old.checkpoint.kind (given_of (versions_in old.slots) key);
+      given =
+          old.checkpoint.given ++ kept_of old.checkpoint.kind (given_of (versions_in old.slots) key);
     };
   }
   pub slots : (slot : ℕ) → key_at new.slots slot ≡ key_at old.slots slot
@@ -89,24 +93,37 @@ pub record IsImageOf (v : CoreView) (i : Image) : Type 0 where
   pub number : i.number ≡ number_of v.log
   pub cut : IsCutOf v.catalog (table_of v.opening) v.log i
 
+-- its header, where it is streamed: with what the scan gave, in that order, it makes the image
+pub record IsHeaderOf (v : CoreView) (h : Header) : Type 0 where
+  pub fits : FitsHeader h v.checkpoint.given
+  pub image : IsImageOf v (assembled h v.checkpoint.given)
+
+-- the scan ends: the image waits, or the header
+abbrev pub CompletesBy : Way → (old new : CoreView) → Type 0
+CompletesBy Whole old new = (i : Image) × IsImageOf old i × (new ≡ record (entered old Complete) { checkpoint = record old.checkpoint { waiting = Some i } })
+CompletesBy Streamed old new = (h : Header) × IsHeaderOf old h × (new ≡ record (entered old Complete) { checkpoint = record old.checkpoint { header = Some h } })
+
 -- what a change to this phase does
 abbrev pub AdvancesTo : Phase → (old new : CoreView) → Type 0
 AdvancesTo Prepare old new = ⊥
 AdvancesTo Resolve old new = new ≡ entered old Resolve
 AdvancesTo Capture old new =
-    (b : ℕ) × EndsAt old.checkpoint.kind old b × (new ≡ record (entered old Capture) { checkpoint = record old.checkpoint { cursor = 0; bound = b; captured = [] } })
-AdvancesTo Complete old new =
-    (i : Image) × IsImageOf old i × (new ≡ record (entered old Complete) { checkpoint = record old.checkpoint { captured = []; waiting = Some i } })
+    (b : ℕ) × EndsAt old.checkpoint.kind old b × (new ≡ record (entered old Capture) { checkpoint = record old.checkpoint { scan = old.checkpoint.kind; cursor = 0; bound = b; given = [] } })
+AdvancesTo Complete old new = CompletesBy old.checkpoint.way old new
 AdvancesTo Rest old new = new ≡ rested_core (entered old Rest)
 
 -- the image was taken
 abbrev pub taken : CoreView → CoreView
 taken v = record v { checkpoint = record v.checkpoint { waiting = None } }
 
+-- the header was taken
+abbrev pub header_taken : CoreView → CoreView
+header_taken v = record v { checkpoint = record v.checkpoint { header = None } }
+
 -- an open call starts at rest from now on
 abbrev pub restarted : Underway → Underway
 restarted c = record c { start = Rest }
 
--- the checkpoint is given up: nothing of it is left
+-- the checkpoint is given up: no image of it is left
 abbrev pub abandoned : CoreView → CoreView
-abandoned v = record (rested_core (entered v Rest)) { calls = map (option_map restarted) v.calls; checkpoint = record v.checkpoint { captured = []; waiting = None } }
+abandoned v = record (rested_core (entered v Rest)) { calls = map (option_map restarted) v.calls; checkpoint = record v.checkpoint { waiting = None } }

@@ -11,11 +11,13 @@ use Rattle.commitlog.specs.Records.{Record, Call}
 use Rattle.procedure.specs.declared.outcomes.TheConstants.{COMMITTED}
 use Rattle.commitlog.specs.Histories.{after, code_of, phase_of}
 use Rattle.image.specs.Images.{Image}
+use Rattle.image.specs.declared.headers.Header.{Header}
 use Rattle.image.specs.declared.images.Kind.{Kind}
 use Rattle.image.specs.Merges.{table_of}
 use Rattle.record_store.specs.Stores.{Slots}
 use Rattle.record_store.specs.declared.limits.TheConstants.{STORE_RECORDS}
 use Rattle.steps.specs.Versions.{versions_in, undo_of, KeyVersions, found, kept_key, undone_key, wrote_key}
+use Rattle.steps.specs.declared.checkpoints.Way.{Way}
 use Rattle.steps.specs.declared.step.Stepped.{Stepped}
 use Rattle.steps.specs.declared.step.Stepped.TheVariants.{Ran, Ready}
 
@@ -27,14 +29,18 @@ pub record Underway : Type 0 where
   pub start : Phase
   pub count : ℕ
 
--- the checkpoint that runs, or the last one that ran: its kind, the place that its scan visits next and the one that ends
--- it, what the scan was given for the image, key by key, and the image, once it is finished and until it is taken
+-- the checkpoint that runs, or the last one that ran: its kind and its way; of the last scan its kind, the place that it visits next, the
+-- one that ends it, and what it gave for the image, key by key; and the image, or the header of a streamed one, once it is finished and until it is
+-- taken
 pub record CheckpointView : Type 0 where
   pub kind : Kind
+  pub way : Way
+  pub scan : Kind
   pub cursor : ℕ
   pub bound : ℕ
-  pub captured : List (Bytes × Cell)
+  pub given : List (Bytes × Cell)
   pub waiting : Option Image
+  pub header : Option Header
 
 pub record CoreView : Type 0 where
   pub catalog : List Procedure

@@ -9,10 +9,11 @@ use Rattle.image.specs.declared.images.Kind.TheVariants.{Full}
 use Rattle.image.specs.Merges.{table_of}
 use Rattle.steps.specs.CoreViews.{CheckpointView, CoreView}
 use Rattle.steps.specs.Versions.{versions_in, opened_versions}
+use Rattle.steps.specs.declared.checkpoints.Way.TheVariants.{Whole}
 
 -- no checkpoint ran
 abbrev pub no_checkpoint : CheckpointView
-no_checkpoint = record { kind = Full; cursor = 0; bound = 0; captured = []; waiting = None }
+no_checkpoint = record { kind = Full; way = Whole; scan = Full; cursor = 0; bound = 0; given = []; waiting = None; header = None }
 
 -- no call is open, no checkpoint ran, the log is empty, and each key of the opening, and no other, has a record with its value
 pub record IsOpened (c : List Procedure) (i : Image) (v : CoreView) : Type 0 where

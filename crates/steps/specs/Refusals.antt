@@ -15,12 +15,16 @@ use Rattle.record_store.specs.Stores.{Slots, records}
 use Rattle.record_store.specs.declared.limits.TheConstants.{STORE_RECORDS}
 use Rattle.steps.specs.CoreViews.{CheckpointView, CoreView, Underway, any_open, becomes_next, front_of, is_barred, open_at, touch_next}
 use Rattle.steps.specs.Versions.{versions_in, VersionsByKey}
+use Rattle.steps.specs.declared.checkpoints.Way.{Way}
+use Rattle.steps.specs.declared.checkpoints.Way.TheVariants.{Streamed, Whole}
 use Rattle.steps.specs.declared.errors.AbandonError.{AbandonError}
 use Rattle.steps.specs.declared.errors.AbandonError.TheVariants as abandoning
 use Rattle.steps.specs.declared.errors.AdvanceError.{AdvanceError}
 use Rattle.steps.specs.declared.errors.AdvanceError.TheVariants as advancing
 use Rattle.steps.specs.declared.errors.CaptureError.{CaptureError}
 use Rattle.steps.specs.declared.errors.CaptureError.TheVariants as capturing
+use Rattle.steps.specs.declared.errors.CaptureToError.{CaptureToError}
+use Rattle.steps.specs.declared.errors.CaptureToError.TheVariants as sending
 use Rattle.steps.specs.declared.errors.StartError.{StartError}
 use Rattle.steps.specs.declared.errors.StartError.TheVariants as starting
 use Rattle.steps.specs.declared.errors.StepError.{StepError}
@@ -146,10 +150,18 @@ advance_error_text advancing.NoMemory = codes "no memory"
 
 abbrev pub capture_error_text : CaptureError → Bytes
 capture_error_text capturing.NotCapturing = codes "not capturing"
+capture_error_text capturing.WrongWay = codes "wrong way"
 capture_error_text capturing.NoMemory = codes "no memory"
+
+abbrev pub capture_to_error_text : CaptureToError → Bytes
+capture_to_error_text sending.NotCapturing = codes "not capturing"
+capture_to_error_text sending.WrongWay = codes "wrong way"
+capture_to_error_text sending.RingFull = codes "ring full"
+capture_to_error_text sending.NoMemory = codes "no memory"
 
 abbrev pub abandon_error_text : AbandonError → Bytes
 abandon_error_text abandoning.NotAbandonable = codes "not abandonable"
+abandon_error_text abandoning.WrongWay = codes "wrong way"
 abandon_error_text abandoning.LogFull = codes "log full"
 abandon_error_text abandoning.NoMemory = codes "no memory"
 
@@ -163,11 +175,20 @@ is_rest Resolve = false
 is_rest Capture = false
 is_rest Complete = false
 
+-- do the entries of the checkpoint leave one by one?
+abbrev pub is_streamed : Way → Bool
+is_streamed Whole = false
+is_streamed Streamed = true
+
+-- has what the last checkpoint made been taken?
+abbrev pub nothing_waits : CheckpointView → Bool
+nothing_waits k = is_none k.waiting && is_none k.header
+
 -- why a checkpoint doesn't start, want of memory apart
 abbrev pub start_refusal : CoreView → Option StartError
 start_refusal v =
     option_or (refused_unless (is_rest (phase_of v.log)) starting.NotAtRest)
-    (option_or (refused_unless (is_none v.checkpoint.waiting) starting.NotTaken)
+    (option_or (refused_unless (nothing_waits v.checkpoint) starting.NotTaken)
     (refused_unless (not (is_log_full v)) starting.LogFull))
 
 -- the place of a phase in their order
@@ -215,8 +236,16 @@ is_capture Complete = false
 
 -- why nothing is captured, want of memory apart
 abbrev pub capture_refusal : CoreView → Option CaptureError
-capture_refusal v = refused_unless (is_capture (phase_of v.log)) capturing.NotCapturing
+capture_refusal v =
+    option_or (refused_unless (is_capture (phase_of v.log)) capturing.NotCapturing) (refused_unless (not (is_streamed v.checkpoint.way)) capturing.WrongWay)
+
+-- why nothing is captured into a ring, want of memory and of room apart
+abbrev pub capture_to_refusal : CoreView → Option CaptureToError
+capture_to_refusal v =
+    option_or (refused_unless (is_capture (phase_of v.log)) sending.NotCapturing) (refused_unless (is_streamed v.checkpoint.way) sending.WrongWay)
 
 -- why a checkpoint isn't abandoned, want of memory apart
 abbrev pub abandon_refusal : CoreView → Option AbandonError
-abandon_refusal v = option_or (refused_unless (is_cutting (phase_of v.log)) abandoning.NotAbandonable) (refused_unless (not (is_log_full v)) abandoning.LogFull)
+abandon_refusal v =
+    option_or (refused_unless (is_cutting (phase_of v.log)) abandoning.NotAbandonable)
+    (option_or (refused_unless (not (is_streamed v.checkpoint.way)) abandoning.WrongWay) (refused_unless (not (is_log_full v)) abandoning.LogFull))

@@ -16,6 +16,7 @@ use Rattle.steps.specs.CutImages.{IsTaken}
 use Rattle.steps.specs.Reclaiming.{IsReclaimable, Reclaims}
 use Rattle.steps.specs.Refusals.{Answers, abandon_refusal, advance_refusal, begin_refusal, capture_refusal, finish_refusal, start_refusal, step_refusal}
 use Rattle.steps.specs.declared.captures.Captured.{Captured}
+use Rattle.steps.specs.declared.checkpoints.Way.TheVariants.{Whole}
 use Rattle.steps.specs.declared.errors.AbandonError.{AbandonError}
 use Rattle.steps.specs.declared.errors.AbandonError.TheVariants as abandoning
 use Rattle.steps.specs.declared.errors.AdvanceError.{AdvanceError}
@@ -66,7 +67,7 @@ pub record GivesUpAs (old new : CoreView) (s : ℕ) (r : Result (Unit {0}) NotAc
   pub active : IsOk r ↔ IsSome (open_at old s)
 
 pub record StartsAs (old new : CoreView) (k : Kind) (r : Result ℕ StartError) : Type 0 where
-  pub started : OnOk r (new ≡ started old k)
+  pub started : OnOk r (new ≡ started old k Whole)
   pub number : IfOk r (λ n. n ≡ suc (number_of old.log))
   pub refused : OnErr r (new ≡ old)
   pub refusal : Answers (start_refusal old) starting.NoMemory r

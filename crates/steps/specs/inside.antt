@@ -1,4 +1,5 @@
 -- How the fields of a core stand for a state of the machine, and what its own calls do to them.
+pub mod Sends
 pub mod SetAside
 pub mod InstructionLocks
 pub mod CoreFields

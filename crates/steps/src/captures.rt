@@ -1,11 +1,9 @@
-//! How the scan of a checkpoint goes, and how its image is finished.
+//! How the scan of a checkpoint goes.
 
 ghost use Rattle.std.specs.Prelude.{◌≡◌, ◌≤◌, ◌++◌, ◌+◌, ℕ, IfOk, None, OnErr, OnOk, IsSome, Some, vec_capacity, vec_len};
-ghost use Rattle.phase.specs.declared.phases.Phase.TheVariants.{Capture, Complete, Resolve};
+ghost use Rattle.phase.specs.declared.phases.Phase.TheVariants.{Capture, Resolve};
 ghost use Rattle.procedure.specs.Bytes.{Bytes};
 ghost use Rattle.commitlog.specs.Histories.{phase_of};
-ghost use Rattle.image.specs.Headers.{EachKeyOnce, of_captured};
-ghost use Rattle.image.specs.Images.{IsLawfulImage};
 ghost use Rattle.record_store.specs.Stores.{changed, key_at, record_at};
 ghost use Rattle.record_store.specs.Stores as recorded;
 ghost use Rattle.steps.specs.inside.SetAside.{aside_at};
@@ -14,20 +12,19 @@ ghost use Rattle.steps.specs.inside.RecordEdits.{captured, edited, given_by};
 ghost use Rattle.steps.specs.Versions.{given_of, is_kept, kept_of, versions_in};
 ghost use Rattle.steps.specs.Refusals.{Answers, advance_refusal, capture_refusal};
 ghost use Rattle.steps.specs.inside.CheckpointFields.{places, spots};
-ghost use Rattle.steps.specs.machine.Machine.{base_at};
 ghost use Rattle.steps.specs.declared.errors.CaptureError.TheVariants as capturing;
 
 use crate::checkpointing::push_token;
+use crate::checkpoints::{Tally, Way};
 use crate::cores::Core;
 use crate::edits::copy_of;
 use crate::errors::CaptureError;
-use crate::reclaiming::Aside;
-use image::{Entry, Image, Kind};
+use crate::given::Given;
+use image::{Entry, Kind};
 use phase::Phase;
 use procedure::{Key, NoMemory};
 use record_store::{Changed, Record, Stable, Store};
 use std::alloc::Allocator;
-use std::mem;
 
 /// How a capture is answered.
 #[derive(Clone, Copy, Debug, PartialEq, Eq)]
@@ -59,7 +56,7 @@ fn places<A: Allocator>(kind: Kind, store: &Store<A>, changed: &Changed<A>) -> u
 }
 
 /// The key at a place of a scan: of a slot, or of the frozen keys in their order.
-fn key_at_place<A: Allocator>(
+pub(crate) fn key_at_place<A: Allocator>(
     kind: Kind,
     store: &Store<A>,
     changed: &Changed<A>,
@@ -124,46 +121,33 @@ fn visit<A: Allocator + Clone>(
     }
 }
 
-/// Keeps what a scan was given, if the image has it. There is room for it.
-fn keep<A: Allocator>(captured: &mut Vec<Entry<A>, A>, kind: Kind, given: Option<Entry<A>>)
+/// Keeps what a record held, if the image has it. There is room for it.
+fn keep<A: Allocator>(
+    captured: &mut Vec<Entry<A>, A>,
+    given: &mut Given<Entry<A>>,
+    kind: Kind,
+    held: Option<Entry<A>>,
+)
     requires { vec_len captured.old + 1 ≤ vec_capacity captured.old }
-    ensures { captured.new.items ≡ captured.old.items ++ kept_of kind given }
+    ensures captured { captured.new.items ≡ captured.old.items ++ kept_of kind held }
+    ensures given { given.new.entries ≡ given.old.entries ++ kept_of kind held }
 {
-    match given {
-        Some(entry) if is_kept(kind, &entry) => captured.push_reserved(entry),
+    match held {
+        Some(entry) if is_kept(kind, &entry) => {
+            *given = given.and(&entry);
+            captured.push_reserved(entry);
+        }
         _ => {}
     }
 }
 
 /// Whether an image of the kind has the entry. A partial scan visits keys of the image alone.
-fn is_kept<A: Allocator>(kind: Kind, entry: &Entry<A>) -> bool
+pub(crate) fn is_kept<A: Allocator>(kind: Kind, entry: &Entry<A>) -> bool
     ensures { result ≡ is_kept kind entry.now }
 {
     match kind {
         Kind::Full => entry.cell.is_some(),
         Kind::Partial => true,
-    }
-}
-
-/// The image of what was captured, each key once.
-fn image_of<A: Allocator>(
-    kind: Kind,
-    number: u64,
-    finished: u64,
-    place: u64,
-    entries: Vec<Entry<A>, A>,
-) -> Image<A>
-    requires once { EachKeyOnce entries.items }
-    requires lawful { IsLawfulImage (of_captured kind number (base_at kind number finished) place entries.items) }
-    ensures { result ≡ of_captured kind number (base_at kind number finished) place entries.items }
-{
-    let base = match kind {
-        Kind::Full => number,
-        Kind::Partial => finished,
-    };
-    match Image::captured(kind, number, base, place, entries) {
-        Some(image) => image,
-        None => unreachable!(),
     }
 }
 
@@ -180,6 +164,9 @@ impl<A: Allocator + Clone> Core<A> {
         self.checkpoint.cursor = 0;
         self.checkpoint.bound = bound;
         self.checkpoint.captured.clear();
+        self.checkpoint.scan = self.checkpoint.kind;
+        self.checkpoint.given = Given::nothing();
+        self.checkpoint.tally = Tally::none();
         self.phase = Phase::Capture;
         Ok(())
     }
@@ -187,8 +174,8 @@ impl<A: Allocator + Clone> Core<A> {
     /// The scan visits one place: a slot, or one of the keys that were written between the two cuts. It
     /// keeps what the image has of the key there. Where no place is left nothing changes.
     ///
-    /// It is refused in another phase than capture (`NotCapturing`), and for memory (`NoMemory`). A
-    /// refusal changes nothing.
+    /// It is refused in another phase than capture (`NotCapturing`), in a streamed checkpoint
+    /// (`WrongWay`), and for memory (`NoMemory`). A refusal changes nothing.
     pub fn capture(&mut self) -> Result<Captured, CaptureError>
         ensures captured { IfOk result (λ x. CapturesAs x self.old self.new) }
         ensures refused { OnErr result (self.new ≡ self.old) }
@@ -197,6 +184,10 @@ impl<A: Allocator + Clone> Core<A> {
         match self.phase {
             Phase::Capture => {}
             _ => return Err(CaptureError::NotCapturing),
+        }
+        match self.checkpoint.way {
+            Way::Whole => {}
+            Way::Streamed => return Err(CaptureError::WrongWay),
         }
         if self.checkpoint.cursor == self.checkpoint.bound {
             return Ok(Captured::Done);
@@ -210,40 +201,17 @@ impl<A: Allocator + Clone> Core<A> {
             &self.changed,
             self.checkpoint.cursor,
         );
-        let given = match visit(&mut self.store, key) {
-            Ok(given) => given,
+        let held = match visit(&mut self.store, key) {
+            Ok(held) => held,
             Err(NoMemory) => return Err(CaptureError::NoMemory),
         };
-        keep(&mut self.checkpoint.captured, self.checkpoint.kind, given);
+        keep(
+            &mut self.checkpoint.captured,
+            &mut self.checkpoint.given,
+            self.checkpoint.kind,
+            held,
+        );
         self.checkpoint.cursor += 1;
         Ok(Captured::Slot)
-    }
-
-    /// From capture into complete: the image is finished, and waits to be taken.
-    pub(crate) fn complete(&mut self) -> Result<(), NoMemory>
-        requires phase { phase_of self.old.log ≡ Capture }
-        requires free { advance_refusal self.old ≡ None }
-        ensures ok { OnOk result (AdvancesTo Complete self.old self.new) }
-        ensures err { OnErr result (self.new ≡ self.old) }
-    {
-        // Brings in that the store has at most 100,000 records, and so the image as many entries.
-        let _records = self.store.len();
-        let empty = Vec::new(self.alloc.clone()?);
-        push_token(&mut self.log, Phase::Complete, self.checkpoint.number)?;
-        let entries = mem::replace(&mut self.checkpoint.captured, empty);
-        let image = image_of(
-            self.checkpoint.kind,
-            self.checkpoint.number,
-            self.checkpoint.finished,
-            self.checkpoint.place,
-            entries,
-        );
-        self.changed.clear_frozen();
-        // Records that were set aside since their keys were collected may go now.
-        self.aside = Aside::Unknown;
-        self.checkpoint.finished = self.checkpoint.number;
-        self.checkpoint.waiting = Some(image);
-        self.phase = Phase::Complete;
-        Ok(())
     }
 }

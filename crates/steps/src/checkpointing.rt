@@ -7,21 +7,24 @@ ghost use Rattle.phase.specs.declared.phases.Phase.TheVariants.{Prepare, Resolve
 ghost use Rattle.commitlog.specs.Histories.{number_of, phase_of};
 ghost use Rattle.commitlog.specs.Records.{Token};
 ghost use Rattle.commitlog.specs.declared.limits.TheConstants.{LOG_RECORDS};
+ghost use Rattle.image.specs.Headers.{FitsHeader, assembled};
 ghost use Rattle.image.specs.Merges.{table_of};
 ghost use Rattle.record_store.specs.ChangedSets.{empty_set, union};
 ghost use Rattle.steps.specs.inside.CoreFields.{restarted_call};
 ghost use Rattle.steps.specs.CutImages.{IsTaken};
-ghost use Rattle.steps.specs.Checkpointing.{AdvancesTo, abandoned, entered, started, taken};
+ghost use Rattle.steps.specs.Checkpointing.{AdvancesTo, abandoned, entered, header_taken, started, taken};
 ghost use Rattle.steps.specs.Refusals.{Answers, abandon_refusal, advance_refusal, is_scanning, start_refusal};
+ghost use Rattle.steps.specs.declared.checkpoints.Way.TheVariants.{Streamed, Whole};
 ghost use Rattle.steps.specs.declared.errors.AbandonError.TheVariants as abandoning;
 ghost use Rattle.steps.specs.declared.errors.AdvanceError.TheVariants as advancing;
 ghost use Rattle.steps.specs.declared.errors.StartError.TheVariants as starting;
 
 use crate::calls::OpenCall;
+use crate::checkpoints::Way;
 use crate::cores::Core;
 use crate::errors::{AbandonError, AdvanceError, StartError};
 use commitlog::{Log, PushError, Record};
-use image::{Image, Kind};
+use image::{Header, Image, Kind};
 use phase::Phase;
 use procedure::NoMemory;
 use record_store::Changed;
@@ -91,21 +94,16 @@ impl<A: Allocator> Core<A> {
         ensures err { IfErr result (λ e. start_refusal self.now ≡ Some e) }
     {
         match self.phase {
-            Phase::Rest if self.checkpoint.waiting.is_some() => Err(StartError::NotTaken),
+            Phase::Rest if self.checkpoint.is_waiting() => Err(StartError::NotTaken),
             Phase::Rest if self.log.is_full() => Err(StartError::LogFull),
             Phase::Rest => Ok(()),
             _ => Err(StartError::NotAtRest),
         }
     }
 
-    /// A checkpoint begins, and its number is answered: one more than that of the last that began.
-    /// Calls that are open go on.
-    ///
-    /// It is refused in another phase than rest (`NotAtRest`), where the image of the last one still
-    /// waits (`NotTaken`), by a log of 1,000,000 records (`LogFull`), and for memory (`NoMemory`). A
-    /// refusal changes nothing.
-    pub fn start(&mut self, kind: Kind) -> Result<u64, StartError>
-        ensures started { OnOk result (self.new ≡ started self.old kind) }
+    /// A checkpoint begins, whose entries leave in this way.
+    fn start_by(&mut self, kind: Kind, way: Way) -> Result<u64, StartError>
+        ensures started { OnOk result (self.new ≡ started self.old kind way) }
         ensures number { IfOk result (λ n. n ≡ suc (number_of self.old.log)) }
         ensures refused { OnErr result (self.new ≡ self.old) }
         ensures refusal { Answers (start_refusal self.old) starting.NoMemory result }
@@ -119,7 +117,34 @@ impl<A: Allocator> Core<A> {
         self.phase = Phase::Prepare;
         self.checkpoint.number = number;
         self.checkpoint.kind = kind;
+        self.checkpoint.way = way;
         Ok(number)
+    }
+
+    /// A checkpoint begins, and its number is answered: one more than that of the last that began.
+    /// Calls that are open go on.
+    ///
+    /// It is refused in another phase than rest (`NotAtRest`), where the image of the last one or its
+    /// header still waits (`NotTaken`), by a log of 1,000,000 records (`LogFull`), and for memory
+    /// (`NoMemory`). A refusal changes nothing.
+    pub fn start(&mut self, kind: Kind) -> Result<u64, StartError>
+        ensures started { OnOk result (self.new ≡ started self.old kind Whole) }
+        ensures number { IfOk result (λ n. n ≡ suc (number_of self.old.log)) }
+        ensures refused { OnErr result (self.new ≡ self.old) }
+        ensures refusal { Answers (start_refusal self.old) starting.NoMemory result }
+    {
+        self.start_by(kind, Way::Whole)
+    }
+
+    /// A checkpoint begins whose entries leave the core one by one, by `capture_to`, so that it holds and
+    /// sorts no image. It is refused as `start` is.
+    pub fn start_streamed(&mut self, kind: Kind) -> Result<u64, StartError>
+        ensures started { OnOk result (self.new ≡ started self.old kind Streamed) }
+        ensures number { IfOk result (λ n. n ≡ suc (number_of self.old.log)) }
+        ensures refused { OnErr result (self.new ≡ self.old) }
+        ensures refusal { Answers (start_refusal self.old) starting.NoMemory result }
+    {
+        self.start_by(kind, Way::Streamed)
     }
 
     /// Whether a scan has places left.
@@ -187,17 +212,25 @@ impl<A: Allocator> Core<A> {
         ensures err { IfErr result (λ e. abandon_refusal self.now ≡ Some e) }
     {
         match self.phase {
-            Phase::Resolve | Phase::Capture if self.log.is_full() => Err(AbandonError::LogFull),
-            Phase::Resolve | Phase::Capture => Ok(()),
-            _ => Err(AbandonError::NotAbandonable),
+            Phase::Resolve | Phase::Capture => {}
+            _ => return Err(AbandonError::NotAbandonable),
         }
+        match self.checkpoint.way {
+            Way::Whole => {}
+            Way::Streamed => return Err(AbandonError::WrongWay),
+        }
+        if self.log.is_full() {
+            return Err(AbandonError::LogFull);
+        }
+        Ok(())
     }
 
     /// The checkpoint is given up, and its number answered: its keys count as written since the last
     /// finished one, and the open calls as begun at rest.
     ///
-    /// It is refused in another phase than resolve and capture (`NotAbandonable`), by a log of 1,000,000
-    /// records (`LogFull`), and for memory (`NoMemory`). A refusal changes nothing.
+    /// It is refused in another phase than resolve and capture (`NotAbandonable`), where it is streamed
+    /// (`WrongWay`), by a log of 1,000,000 records (`LogFull`), and for memory (`NoMemory`). A refusal
+    /// changes nothing.
     pub fn abandon(&mut self) -> Result<u64, AbandonError>
         ensures abandoned { OnOk result (self.new ≡ abandoned self.old) }
         ensures number { IfOk result (λ n. n ≡ number_of self.old.log) }
@@ -234,6 +267,17 @@ impl<A: Allocator> Core<A> {
     {
         self.checkpoint.waiting.take()
     }
+
+    /// The header of the last checkpoint, if it was streamed, once, and None where none waits. With the
+    /// entries that its scan sent, in their order, it makes the image of the checkpoint's cut.
+    pub fn take_header(&mut self) -> Option<Header>
+        ensures header { result ≡ self.old.checkpoint.header }
+        ensures taken { self.new ≡ header_taken self.old }
+        ensures fits { IfSome result (λ h. FitsHeader h self.old.checkpoint.given) }
+        ensures cut { IfSome result (λ h. IsTaken self.old.catalog (table_of self.old.opening) self.old.log (assembled h self.old.checkpoint.given)) }
+    {
+        self.checkpoint.header.take()
+    }
 }
 
 impl<A: Allocator + Clone> Core<A> {
@@ -253,7 +297,7 @@ impl<A: Allocator + Clone> Core<A> {
     }
 
     /// Enters the phase that follows, and returns it: into resolve the checkpoint's cut is made, into
-    /// capture its scan begins, into complete its image is finished, and into rest it ends. The log
+    /// capture its scan begins, into complete its image or its header is finished, and into rest it ends. The log
     /// gets a token that says so.
     ///
     /// It is refused at rest (`AtRest`); in prepare, resolve and complete where an open call started in

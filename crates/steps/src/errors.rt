@@ -220,7 +220,7 @@ impl From<NoMemory> for BeginError {
 pub enum StartError {
     /// A checkpoint runs.
     NotAtRest,
-    /// The image of the one before was not taken.
+    /// The image of the one before, or its header, was not taken.
     NotTaken,
     /// The log has 1,000,000 records.
     LogFull,
@@ -305,6 +305,8 @@ impl Error for AdvanceError {}
 pub enum CaptureError {
     /// The phase isn't capture.
     NotCapturing,
+    /// The checkpoint is streamed.
+    WrongWay,
     NoMemory,
 }
 
@@ -318,6 +320,7 @@ impl CaptureError {
     {
         match self {
             CaptureError::NotCapturing => "not capturing",
+            CaptureError::WrongWay => "wrong way",
             CaptureError::NoMemory => "no memory",
         }
     }
@@ -335,11 +338,56 @@ impl fmt::Display for CaptureError {
 
 impl Error for CaptureError {}
 
+/// Why nothing is captured into a ring. The first that holds, in this order, is answered; but memory may
+/// be wanting before the ring is asked.
+#[derive(Clone, Copy, Debug, PartialEq, Eq)]
+pub enum CaptureToError {
+    /// The phase isn't capture.
+    NotCapturing,
+    /// The checkpoint isn't streamed.
+    WrongWay,
+    /// The ring has no room for the entry that the place gives, or its tap has sent as many entries as an
+    /// image may have.
+    RingFull,
+    NoMemory,
+}
+
+impl CaptureToError {
+    ghost use Rattle.std.specs.Prelude.{◌≡◌};
+    ghost use Rattle.steps.specs.Refusals.{capture_to_error_text};
+
+    /// The name of the refusal, as it is printed.
+    pub fn name(self) -> &'static str
+        ensures { result.now ≡ capture_to_error_text self }
+    {
+        match self {
+            CaptureToError::NotCapturing => "not capturing",
+            CaptureToError::WrongWay => "wrong way",
+            CaptureToError::RingFull => "ring full",
+            CaptureToError::NoMemory => "no memory",
+        }
+    }
+}
+
+impl fmt::Display for CaptureToError {
+    ghost use Rattle.steps.specs.Refusals.{capture_to_error_text};
+
+    ghost output = { λ e. Some (capture_to_error_text e) };
+
+    fn fmt<W: fmt::Write>(&self, f: &mut fmt::Formatter<W>) -> fmt::Result {
+        f.write_str(self.name())
+    }
+}
+
+impl Error for CaptureToError {}
+
 /// Why a checkpoint isn't abandoned. The first that holds, in this order, is answered.
 #[derive(Clone, Copy, Debug, PartialEq, Eq)]
 pub enum AbandonError {
     /// The phase is neither resolve nor capture.
     NotAbandonable,
+    /// The checkpoint is streamed.
+    WrongWay,
     /// The log has 1,000,000 records.
     LogFull,
     NoMemory,
@@ -355,6 +403,7 @@ impl AbandonError {
     {
         match self {
             AbandonError::NotAbandonable => "not abandonable",
+            AbandonError::WrongWay => "wrong way",
             AbandonError::LogFull => "log full",
             AbandonError::NoMemory => "no memory",
         }

@@ -1,7 +1,8 @@
 //! What holds of every schedule, as the contracts of functions that do nothing.
 
 ghost use Rattle.steps.specs.Promises.{AllSchedules};
-ghost use Rattle.steps.specs.Visits.{ScansWhole};
+ghost use Rattle.steps.specs.Streaming.{HeadersFix};
+ghost use Rattle.steps.specs.Visits.{ScansInTurns, ScansWhole};
 
 use std::alloc::Allocator;
 
@@ -15,4 +16,16 @@ pub fn schedules_law()
 /// place exactly as often as it had places when it began.
 pub fn scans_law<A: Allocator>()
     ensures { ScansWhole A }
+{}
+
+/// The same where captures into rings, of a streamed checkpoint, stand among the events.
+pub fn turns_law<A: Allocator>()
+    ensures { ScansInTurns A }
+{}
+
+/// The header of a streamed checkpoint fits what its scan gave (`Core::take_header`), and what is assembled
+/// with it fits it too (`image::assemble`). Then it is the image of that checkpoint, unless two different
+/// lists of entries have one digest.
+pub fn headers_law()
+    ensures { HeadersFix }
 {}

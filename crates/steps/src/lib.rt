@@ -1,6 +1,9 @@
 //! The engine's core: it runs the calls of sessions under strict two-phase locking, and keeps the log
 //! of those that were answered.
 //!
+//! A checkpoint gives its image at the end, or is streamed: then its scan sends the entries one by one to
+//! a ring (`Core::start_streamed`, `Core::capture_to`), and it gives their header (`Core::take_header`).
+//!
 //! What a reader must believe stands at the top of `specs/`: what contracts see of a core (`CoreViews`)
 //! and of a key's record (`Versions`), when calls are refused (`Refusals`), what events do and how they
 //! are answered (`Schedules`, `Drives`), and what is promised of every schedule (`Promises`). The machine
@@ -13,12 +16,14 @@ mod calls;
 pub mod captures;
 mod checkpointing;
 mod checkpoints;
+mod completing;
 pub mod cores;
 pub mod drives;
 mod edits;
 pub mod errors;
 pub mod finish;
 mod give_up;
+mod given;
 mod instructions;
 pub mod laws;
 mod locking;
@@ -27,14 +32,16 @@ mod open;
 mod reclaiming;
 pub mod schedules;
 pub mod step;
+pub mod streaming;
 pub mod versions;
 
 pub use captures::Captured;
+pub use checkpoints::Way;
 pub use cores::Core;
 pub use drives::{Run, drive};
 pub use errors::{
-    AbandonError, AdvanceError, BeginError, CaptureError, FinishError, NotActive, OpenError,
-    StartError, StepError,
+    AbandonError, AdvanceError, BeginError, CaptureError, CaptureToError, FinishError, NotActive,
+    OpenError, StartError, StepError,
 };
 pub use finish::Answer;
 pub use schedules::{Event, Handled, Reply};

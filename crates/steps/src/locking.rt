@@ -28,9 +28,7 @@ pub(crate) fn lock<A: Allocator>(
         Access::Writes(key) => (key, Mode::Exclusive),
         Access::Nothing | Access::Ended(_) => return Ok(None),
     };
-    let before = locks.mode_of(session, key);
-    locks.request(session, key, mode)?;
-    Ok(before)
+    locks.request(session, key, mode)
 }
 
 /// A session holds the key of an instruction again as it did before.

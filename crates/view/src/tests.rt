@@ -87,7 +87,7 @@ fn entry(alloc: Global, letter: u8, number: Option<u64>) -> Result<Entry<Global>
     match number {
         Some(number) => Ok(Entry {
             key,
-            cell: Some(Value::of_number(alloc, number)?),
+            cell: Some(Value::of_number(number)),
         }),
         None => Ok(Entry { key, cell: None }),
     }

@@ -7,6 +7,8 @@
 //!   does as ever;
 //! - `cramped calcdb WORDS = FILES`: the same where all answers are written; of the files, a line each with
 //!   their sizes, the first ones are whole then, and there is none after the next one;
+//! - `unsaved calcdb WORDS = FILES`: each read, write and flush of a file fails in turn, and files take few
+//!   bytes a call: the first file that isn't whole is said not to be read or written, and none follows;
 //! - `bytewise calcdb WORDS = COUNT`: so many bytes are written, a byte a call, and each call in turn fails;
 //! - `unwritten calcdb WORDS = -`: it ends where standard output takes no write, or can't be flushed;
 //! - `misused calcdb WORDS = -`: they ask for nothing;
@@ -16,6 +18,7 @@
 
 use crate::program::perform;
 use crate::tests::devices::{PLENTY, Sink};
+use crate::tests::faulty_files::{Calls, FaultyFiles};
 use crate::tests::growths::{EVERY, Fallible, MOST};
 use crate::tests::made_files::make_file;
 use crate::tests::rows::{Line, check_named, check_that, number_of, rows_of};
@@ -78,6 +81,22 @@ fn wanted_memory(rt: &impl Abort, line: &str, found: &[u8], whole: &[u8]) -> boo
     false
 }
 
+/// The status of the program for the words of a line, and its standard error, over files of a runtime.
+fn performed_on<R: Files + AllocGlobal, A: Allocator + Copy>(
+    rt: &R,
+    alloc: A,
+    line: &str,
+    out: &mut Sink,
+) -> Result<(u8, Vec<u8, Global>), Fail>
+where
+    R::File: Drop,
+{
+    let mut err = Sink::new(rt.alloc(), PLENTY, PLENTY);
+    let words = words_of(rt.alloc(), line)?;
+    let status = perform(alloc, rt, words.as_slice(), out, &mut err);
+    Ok((status, err.kept))
+}
+
 /// What standard error has where standard output fails.
 const UNWRITTEN: &[u8] = b"calcdb: cannot write output\n";
 
@@ -98,10 +117,7 @@ where
         line: &str,
         out: &mut Sink,
     ) -> Result<(u8, Vec<u8, Global>), Fail> {
-        let mut err = Sink::new(self.rt.alloc(), PLENTY, PLENTY);
-        let words = words_of(self.rt.alloc(), line)?;
-        let status = perform(alloc, self.rt, words.as_slice(), out, &mut err);
-        Ok((status, err.kept))
+        performed_on(self.rt, alloc, line, out)
     }
 
     /// What a line comes to, with an output that takes all.
@@ -256,6 +272,77 @@ where
         Ok(())
     }
 
+    /// What a line comes to over files that fail.
+    fn found_over(&self, calls: &Calls, line: &str) -> Result<Vec<u8>, Fail> {
+        let alloc = self.rt.alloc();
+        let rt = (FaultyFiles { rt: self.rt, calls }, alloc);
+        let mut out = output(alloc, PLENTY, PLENTY);
+        let (status, err) = performed_on(&rt, alloc, line, &mut out)?;
+        transcript(alloc, status, out.kept.as_slice(), err.as_slice())
+    }
+
+    /// Whether a command says that one of its words can't be read, and nothing else.
+    fn is_unread(&self, line: &str, found: &[u8]) -> Result<bool, Fail> {
+        for word in line.split_whitespace() {
+            let said = format!(in self.rt.alloc(); "1\nerr calcdb: cannot read {word}\n")?;
+            if found == said.as_bytes() {
+                return Ok(true);
+            }
+        }
+        Ok(false)
+    }
+
+    /// Whether a command prints all, and says that a file of this name can't be written.
+    fn is_unsaved(&self, found: &[u8], whole: &[u8], name: &str) -> Result<bool, Fail> {
+        let said = format!(in self.rt.alloc(); "err calcdb: cannot write {name}\n")?;
+        let front = found.strip_prefix(b"1\n".as_slice()).unwrap_or(&[]);
+        Ok(front.strip_suffix(said.as_bytes()) == Some(behind_status(whole)))
+    }
+
+    /// Which of the files is said not to be written: those before it stand whole, and none after it. It is
+    /// whole itself where it can't be flushed.
+    fn unsaved_file(&self, found: &[u8], whole: &[u8], files: &str) -> Result<usize, Fail> {
+        let standing = self.whole_files(files)?;
+        for (at, line) in files.lines().enumerate() {
+            let (name, _) = line.split_once(' ').ok_or("no size")?;
+            if self.is_unsaved(found, whole, name)? {
+                check_that(
+                    self.rt,
+                    name,
+                    standing == at || standing == at.saturating_add(1),
+                );
+                return Ok(at);
+            }
+        }
+        Err("no file is named".into())
+    }
+
+    /// Each call of a file fails in turn. Where it reads, nothing is written; and each of the files was once
+    /// the one that can't be written.
+    fn check_unsaved(&self, line: &str, files: &str) -> Result<(), Fail> {
+        let calls = Calls::new();
+        let whole = self.found_of(self.rt.alloc(), line)?;
+        let mut next = 0usize;
+        for failing in 1..MOST {
+            self.remove_files(files);
+            calls.arm(failing);
+            let found = self.found_over(&calls, line)?;
+            if calls.asked() < failing {
+                check_that(self.rt, line, found.as_slice() == whole.as_slice());
+                break;
+            }
+            if self.is_unread(line, found.as_slice())? {
+                check_that(self.rt, line, next == 0 && self.whole_files(files)? == 0);
+                continue;
+            }
+            let at = self.unsaved_file(found.as_slice(), whole.as_slice(), files)?;
+            check_that(self.rt, line, at == next || at.saturating_add(1) == next);
+            next = at.saturating_add(1);
+        }
+        check_that(self.rt, line, next == files.lines().count());
+        Ok(())
+    }
+
     /// Words that ask for nothing, which is said on standard error.
     fn check_misused(&self, line: &str) -> Result<(), Fail> {
         let mut out = output(self.rt.alloc(), PLENTY, PLENTY);
@@ -314,6 +401,7 @@ where
             "scarce" => self.check_scarce(line, wanted),
             "bytewise" => self.check_bytewise(line, wanted),
             "cramped" => self.check_cramped(line, wanted),
+            "unsaved" => self.check_unsaved(line, wanted),
             "unwritten" => self.check_unwritten(line),
             "misused" => self.check_misused(line),
             "starved" => self.check_starved(line, wanted),

@@ -2,7 +2,7 @@
 
 use commitlog::{LogHeader, encode_to};
 use image::{Image, Kind, read_image, seal, seal_to};
-use procedure::{Catalog, Instr, Key, Operand, Procedure, Sequence, Table, Value};
+use procedure::{Catalog, Code, Instr, Key, Operand, Procedure, Sequence, Table, Value};
 use replay::recover;
 use sha2::{Digest, Sha256};
 use std::test::Fail;
@@ -13,7 +13,7 @@ fn embedded(rt: HostRuntime) -> Result<(), Fail> {
     let alloc = rt.alloc();
     // A catalog of one procedure, set(key, value), and an empty table to begin with.
     let code = vec![in alloc; Instr::Put(Operand::Arg(0), Operand::Arg(1))]?;
-    let code = Sequence::new(code);
+    let code = Code::new(code)?;
     let set = Procedure { arity: 2, code };
     let catalog = Catalog::new(Sequence::new(vec![in alloc; set]?))?;
     let opening = Image::opening(alloc, Table::new(alloc))?;

@@ -11,6 +11,7 @@ use image::{Image, Kind, seal};
 use procedure::{Catalog, Sequence};
 use sha2::{Digest, Sha256};
 use std::alloc::{Allocator, Global};
+use std::fmt::Write;
 use std::process::Abort;
 use std::test::Fail;
 use steps::Core;
@@ -31,6 +32,15 @@ pub(crate) fn opening_of<A: Allocator + Copy>(alloc: A, pairs: &str) -> Result<I
     }
     let mut source = pairs.as_bytes();
     Ok(load(alloc, &mut source, &mut Vec::new(alloc)).map_err(|_| "no opening")?)
+}
+
+/// Pairs of `count` keys of 4 bytes, which are numbers from 0 on.
+pub(crate) fn numbers(alloc: Global, count: u32) -> Result<String<Global>, Fail> {
+    let mut pairs = String::new(alloc);
+    for key in 0..count {
+        writeln!(pairs, "x{key:08x} #0")?;
+    }
+    Ok(pairs)
 }
 
 /// The procedures of a script without commands.

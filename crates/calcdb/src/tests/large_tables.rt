@@ -1,7 +1,7 @@
 //! Tables of 100,000 keys, the largest call, and many calls.
 
 use crate::tests::core_calls::key_and_value;
-use crate::tests::fixtures::{PROCEDURES, check_over, log_of_core, opened};
+use crate::tests::fixtures::{PROCEDURES, check_over, log_of_core, numbers, opened};
 use crate::tests::rows::{check_driven, check_named, driven, row_of};
 use std::alloc::Global;
 use std::fmt::Write;
@@ -46,15 +46,6 @@ giveup 0 = ok / begin 0 1 set 'k #1 = ok / step 0 = ready / finish 0 = place 0 c
 begin 0 3 swap 'zz #1 = ok / step 0 = ran / step 0 = refused table full / begin 1 1 get 'zz = ok / step 1 = ready / finish 1 = place 2 committed - / begin 1 2 del 'zz = ok
 step 1 = refused conflict / giveup 0 = ok / step 1 = ready / finish 1 = place 3 aborted 2
 ";
-
-/// Pairs of `count` keys of 4 bytes, which are numbers from 0 on.
-fn numbers(alloc: Global, count: u32) -> Result<String<Global>, Fail> {
-    let mut pairs = String::new(alloc);
-    for key in 0..count {
-        writeln!(pairs, "x{key:08x} #0")?;
-    }
-    Ok(pairs)
-}
 
 #[test]
 fn full_table(rt: HostRuntime) -> Result<(), Fail> {

@@ -18,7 +18,7 @@ fn entry_of(alloc: Global, word: &str) -> Result<Entry<Global>, Fail> {
     let cell = if held == "gone" {
         None
     } else {
-        Some(Value::of_number(alloc, number_of(held)?)?)
+        Some(Value::of_number(number_of(held)?))
     };
     Ok(Entry { key, cell })
 }

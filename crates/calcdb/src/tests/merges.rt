@@ -20,7 +20,8 @@ scarce calcdb merge merged full partial last = 6
 older full = full / older partial = partial / calcdb merge merged full partial last = 0|out image full 3 base 3 place 9 count 2 / older last = last
 calcdb merge merged full partial last = 0|out image full 3 base 3 place 9 count 2 / calcdb merge merged full = 0|out image full 1 base 1 place 1 count 2
 calcdb merge merged full last = 1|out refused gap 0 / calcdb merge merged full partial full = 1|out refused not partial 1 / remove last = - / image key = full 1 base 1 place 1: a=1
-older key = key / image gone = partial 2 base 1 place 7: a=gone / calcdb merge merged key gone = 0|out image full 2 base 2 place 7 count 0 / remove key = - / remove gone = -
+older key = key / image gone = partial 2 base 1 place 7: a=gone / calcdb merge merged key gone = 0|out image full 2 base 2 place 7 count 0
+image none = full 2 base 2 place 7: / same merged = none / size merged = 69 / unsaved calcdb merge merged key gone = merged 69 / remove none = - / remove key = - / remove gone = -
 # images with a byte that is another, and the first fault of several
 size full = 95 / turn full = 0 / calcdb merge merged full = 1|out refused not an image / turn full = 0 / turn full = 94 / calcdb merge merged full = 1|out refused bad digest
 calcdb show full = 1|out refused bad digest / image other = full 1 base 1 place 1: a=1 b=2 / size other = 127 / turn other = 9

@@ -35,6 +35,8 @@ out image partial 2 base 1 place 7 count 1|out 'a gone|out phase rest / size gon
 calcdb recover gone/script gone/log gone/recovered gone/0.img = 0|out recovered calls 1 clean count 0
 calcdb recover gone/script gone/log gone/recovered gone/1.img = 0|out recovered calls 1 clean count 0
 calcdb recover gone/script gone/log gone/recovered gone/1.img gone/2.img = 0|out recovered calls 0 clean count 0
+image gone/empty = full 0 base 0 place 0: / same gone/recovered = gone/empty / size gone/recovered = 69
+unsaved calcdb recover gone/script gone/log gone/recovered gone/1.img gone/2.img = gone/recovered 69
 calcdb show gone/recovered = 0|out image full 0 base 0 place 0 count 0 / scarce calcdb recover gone/script gone/log gone/recovered gone/0.img = 20
 starved calcdb recover gone/script gone/log gone/recovered gone/0.img = 1|out refused no memory
 ; Chains that are none, and one of too many images.

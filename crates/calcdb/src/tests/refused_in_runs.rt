@@ -1,10 +1,12 @@
 //! Each growth of a run refused in turn: what it writes, and how it ends.
 
+use crate::engine::run_script;
 use crate::faults::Fault;
-use crate::tests::fixtures::{outcome, script_of};
-use crate::tests::growths::{Fallible, MOST};
-use crate::tests::rows::{Line, answers_of, commands_of, rows_of};
-use std::alloc::Global;
+use crate::tests::fixtures::{opening_of, outcome, script_of};
+use crate::tests::growths::{EVERY, Fallible, MOST};
+use crate::tests::rows::{Line, Row, answers_of, commands_of, row_of, rows_of, script_of_row};
+use std::alloc::{Allocator, Global};
+use std::io::{Result as IoResult, Write};
 use std::process::Abort;
 use std::test::Fail;
 
@@ -88,6 +90,97 @@ fn runs_with_a_growth_refused(rt: HostRuntime) -> Result<(), Fail> {
             }
         }
         assert!(rt; growths > 20, "all growths were refused in turn");
+    }
+    Ok(())
+}
+
+/// A writer after whose so many-th write there is no memory any more.
+#[derive(Drop)]
+struct Starving<'a> {
+    kept: Vec<u8, Global>,
+    heap: &'a Fallible<Global>,
+    left: usize,
+}
+
+impl Write for Starving<'_> {
+    fn write(&mut self, buf: &[u8]) -> IoResult<usize> {
+        self.kept.extend_from_slice(buf)?;
+        self.left = self.left.saturating_sub(1);
+        if self.left == 0 {
+            self.heap.arm(EVERY);
+        }
+        Ok(buf.len())
+    }
+
+    fn flush(&mut self) -> IoResult<()> {
+        Ok(())
+    }
+}
+
+/// What a script writes where memory ends after so many answers, and how it ends.
+fn starved_after<A: Allocator + Copy>(
+    global: Global,
+    alloc: A,
+    heap: &Fallible<Global>,
+    script: &str,
+    left: usize,
+) -> Result<(Vec<u8, Global>, Option<Fault>), Fail> {
+    heap.arm(0);
+    let opening = opening_of(alloc, "")?;
+    let mut source = script.as_bytes();
+    let mut sink = Starving {
+        kept: Vec::new(global),
+        heap,
+        left,
+    };
+    let fault = run_script(alloc, &mut source, &mut sink, opening).err();
+    Ok((sink.kept, fault))
+}
+
+/// An image whose lines are longer than those before it, and a call that replies.
+const LONG_LINE: &str = "\
+# long_line
+call 0 1 set 'a 'value = place 0 committed / start full = checkpoint 1 / advance = phase resolve / advance = phase capture / scan = slots 1
+advance = phase complete / image = image full 1 base 1 place 2 count 1|'a 'value / call 0 2 get 'a = place 5 committed 'value
+";
+
+/// How often the last command but one, and the last one, are refused memory.
+const IMAGE_AT: usize = 6;
+
+/// What a row writes after so many answers, at which its memory ends, and whether it ended for want of it.
+fn written_after(
+    alloc: Global,
+    heap: &Fallible<Global>,
+    row: &Row<'_>,
+    answers: usize,
+) -> Result<Option<(Vec<u8, Global>, bool)>, Fail> {
+    let script = script_of_row(alloc, row)?;
+    let front = answers_of(alloc, &row.lines.as_slice()[..answers.min(row.lines.len())])?;
+    let (written, fault) = starved_after(alloc, heap, heap, script.as_str(), answers)?;
+    let Some(rest) = written.strip_prefix(front.as_bytes()) else {
+        return Ok(None);
+    };
+    Ok(Some((
+        Vec::from_slice(alloc, rest)?,
+        matches!(fault, Some(Fault::NoMemory)),
+    )))
+}
+
+/// A run whose memory ends has written each answer before it begins the next command: it says so of a later
+/// one, or ends.
+#[test]
+fn answers_before_the_end(rt: HostRuntime) -> Result<(), Fail> {
+    let heap = Fallible::new(rt.alloc());
+    let row = row_of(rt.alloc(), LONG_LINE, "long_line")?;
+    for answers in 1..row.lines.len() {
+        let (rest, ended) = written_after(rt.alloc(), &heap, &row, answers)?.ok_or("no answers")?;
+        let refused = rest
+            .split(|byte| *byte == b'\n')
+            .any(|line| line == b"refused no memory".as_slice());
+        assert!(rt; ended || refused, "{answers}");
+        if answers == IMAGE_AT {
+            assert!(rt; ended && rest.is_empty());
+        }
     }
     Ok(())
 }

@@ -43,19 +43,32 @@ const CALLS: [(Call, Reply, Reply, u64); 3] = [
     (Call::Get, FIRST, FIRST, 1),
 ];
 
+/// The value of a number: it is the last of 31 bytes, so many that a copy of them takes memory.
+fn long_value<A: Allocator>(alloc: A, number: u8) -> Result<Value<A>, Fail> {
+    let mut bytes = [0u8; 31];
+    bytes[30] = number;
+    Ok(Value::from_slice(alloc, &bytes)?.ok_or("too long")?)
+}
+
+/// The number of such a value.
+fn number_of<A: Allocator>(value: &Value<A>) -> Option<u64> {
+    value.as_bytes().last().map(|number| u64::from(*number))
+}
+
 /// The image in which `a` holds the image's number, and so does `x`.
-fn numbered<A: Allocator + Copy>(alloc: A, number: u64) -> Result<Image<A>, Fail> {
+fn numbered<A: Allocator + Copy>(alloc: A, number: u8) -> Result<Image<A>, Fail> {
     let mut entries = Vec::with_capacity(alloc, 2)?;
     for name in [b'a', b'x'] {
         let key = Key::new(&[name]).ok_or("no key")?;
-        let cell = Some(Value::of_number(alloc, number)?);
+        let cell = Some(long_value(alloc, number)?);
         entries.push(Entry { key, cell })?;
     }
     let (kind, base) = match number {
         1 => (Kind::Full, 1),
         _ => (Kind::Partial, number.saturating_sub(1)),
     };
-    Ok(Image::new(kind, number, base, 0, entries).ok_or("no image")?)
+    let image = Image::new(kind, u64::from(number), u64::from(base), 0, entries);
+    Ok(image.ok_or("no image")?)
 }
 
 fn append<J: Naming, R: Wait + Drop, A: Allocator + Copy>(
@@ -86,7 +99,7 @@ fn look<J: Naming, A: Allocator + Clone>(
     match looker.get(seen, key) {
         Ok(answer) => {
             let number = match &answer.value {
-                Some(value) => value.as_number(),
+                Some(value) => number_of(value),
                 None => None,
             };
             (Reply::Shown(answer.number, number), answer.seen)

@@ -1,6 +1,8 @@
 //! Rows of `run` and of `load`, and of their files.
 
 use crate::tests::console::check_rows;
+use std::alloc::Global;
+use std::fmt::Write;
 use std::process::Abort;
 use std::test::Fail;
 
@@ -43,6 +45,9 @@ size gone/log = 587 / calcdb show gone/log = 0|out log records 11 clean|out 0 to
 out 5 call 0 1 0 1 'a committed|out 6 token prepare 2|out 7 token resolve 2|out 8 token capture 2|out 9 token complete 2|out 10 token rest 2
 ; Each growth refused in turn, also those of each file.
 cramped calcdb run gone/script --open gone/opening --out gone = gone/0.img 114|gone/1.img 114|gone/2.img 104|gone/log 587
+; Each call of a file fails in turn, and each takes few bytes: the digest of the opening is that of all its bytes.
+folder gone/short = - / unsaved calcdb run gone/script --open gone/opening --out gone/short = gone/short/0.img 114|gone/short/1.img 114|gone/short/2.img 104|gone/short/log 587
+same gone/short/0.img = gone/opening / same gone/short/2.img = gone/partial / same gone/short/log = gone/log
 older gone/first = gone/1.img / size gone/first = 82 / older gone/first = gone/2.img / size gone/first = 72 / remove gone = -
 # logs of checkpoints, of an empty table and beside a call
 folder logs = - / write logs/script = start full|advance|advance|scan|advance|image|advance
@@ -57,7 +62,9 @@ calcdb run empty/script --out empty = 0 / size empty/0.img = 69 / size empty/1.i
 # files that can't be written, in a folder that isn't there, and where a folder has their name
 folder blocked = - / write blocked/script = start full|advance|advance|scan|advance
 calcdb run blocked/script --out blocked/none = 1|out checkpoint 1|out phase resolve|out phase capture|out slots 0|out phase complete|err calcdb: cannot write blocked/none/0.img
-folder blocked/0.img = -
+image blocked/opening = full 0 base 0 place 0: a=1
+calcdb run blocked/script --open blocked/opening --out blocked/none = 1|out checkpoint 1|out phase resolve|out phase capture|out slots 1|out phase complete
+err calcdb: cannot write blocked/none/0.img / remove blocked/opening = - / folder blocked/0.img = -
 calcdb run blocked/script --out blocked = 1|out checkpoint 1|out phase resolve|out phase capture|out slots 0|out phase complete|err calcdb: cannot write blocked/0.img
 size blocked/log = none / remove blocked/0.img = - / folder blocked/log = -
 calcdb run blocked/script --out blocked = 1|out checkpoint 1|out phase resolve|out phase capture|out slots 0|out phase complete|err calcdb: cannot write blocked/log
@@ -72,7 +79,7 @@ starved calcdb run bare/script --out bare = 1|err calcdb: no memory / size bare/
 
 const LOADS: &str = "\
 # a load
-write pairs = 'a #1 / calcdb load pairs image = 0|out image full 0 base 0 place 0 count 1 / size image = 114 / older first = image / size first = 82 / remove first = -
+write pairs = 'a #1 / calcdb load pairs image = 0|out image full 0 base 0 place 0 count 1 / size image = 114 / unsaved calcdb load pairs image = image 114 / older first = image / size first = 82 / remove first = -
 calcdb show image = 0|out image full 0 base 0 place 0 count 1|out 'a #1 / scarce calcdb load pairs image = 5 / bytewise calcdb load pairs image = 36 / remove image = -
 unwritten calcdb load pairs image = - / starved calcdb load pairs image = 1|out refused no memory / size image = none / remove pairs = -
 # pairs of 4,194,305 bytes, and of one less
@@ -94,6 +101,84 @@ fn runs(rt: HostRuntime) -> Result<(), Fail> {
 #[test]
 fn files_of_runs(rt: HostRuntime) -> Result<(), Fail> {
     assert_eq!(rt; check_rows(&rt, FILES)?, 5);
+    Ok(())
+}
+
+/// How many checkpoints there are below, of which one is abandoned.
+const CHECKPOINTS: u64 = 18;
+
+const ABANDONED: u64 = 3;
+
+/// The places of their images: a checkpoint makes five records, of which the second is its cut, and the one
+/// that is abandoned three.
+fn place_of(number: u64) -> u64 {
+    let records = (number % 100) * 5;
+    if number < ABANDONED {
+        records.saturating_sub(4)
+    } else {
+        records.saturating_sub(6)
+    }
+}
+
+/// A row of a run of checkpoints of an empty table, each image of which is in the file of its number.
+fn many_images(alloc: Global) -> Result<String<Global>, Fail> {
+    let mut text = String::from_str(
+        alloc,
+        "# images\nfolder many = - / write many/script = ; checkpoints\n",
+    )?;
+    for number in 1..=CHECKPOINTS {
+        text.push_str(if number == ABANDONED {
+            "start full|advance|abandon\n"
+        } else {
+            "start full|advance|advance|scan|advance|image|advance\n"
+        })?;
+    }
+    text.push_str("calcdb run many/script --out many = 0\n")?;
+    for number in 1..=CHECKPOINTS {
+        writeln!(text, "out checkpoint {number}")?;
+        if number == ABANDONED {
+            writeln!(text, "out phase resolve|out abandoned {number}")?;
+        } else {
+            let place = place_of(number);
+            writeln!(
+                text,
+                "out phase resolve|out phase capture|out slots 0|out phase complete"
+            )?;
+            writeln!(
+                text,
+                "out image full {number} base {number} place {place} count 0|out phase rest"
+            )?;
+        }
+    }
+    Ok(text)
+}
+
+/// What is in these files, and that there are no others.
+fn push_files(text: &mut String<Global>) -> Result<(), Fail> {
+    for number in 1..=CHECKPOINTS {
+        if number == ABANDONED {
+            writeln!(text, "size many/{number}.img = none")?;
+        } else {
+            let place = place_of(number);
+            writeln!(
+                text,
+                "image many/wanted = full {number} base {number} place {place}:"
+            )?;
+            writeln!(text, "same many/{number}.img = many/wanted")?;
+        }
+    }
+    writeln!(
+        text,
+        "size many/0.img = 69 / size many/19.img = none / size many/log = 4120 / remove many = -"
+    )?;
+    Ok(())
+}
+
+#[test]
+fn files_of_many_images(rt: HostRuntime) -> Result<(), Fail> {
+    let mut text = many_images(rt.alloc())?;
+    push_files(&mut text)?;
+    assert_eq!(rt; check_rows(&rt, text.as_str())?, 1);
     Ok(())
 }
 

@@ -4,8 +4,11 @@ use crate::tests::fixtures::opened;
 use crate::tests::growths::{EVERY, Fallible};
 use image::{Image, Kind};
 use locktable::{LockTable, Mode};
-use procedure::{Catalog, Instr, Key, NoMemory, Operand, Procedure, Sequence, Value};
-use record_store::{Changed, Store};
+use phase::Phase;
+use procedure::{
+    Catalog, Code, Instr, Key, Machine, NoMemory, Operand, Procedure, Sequence, Value,
+};
+use record_store::{Changed, Stable, Store};
 use std::alloc::{Allocator, Global};
 use std::test::Fail;
 use steps::Core;
@@ -29,6 +32,21 @@ fn let_go<A: Allocator>(table: &mut LockTable<A>, key: &Key) -> bool {
     table.mode_of(1, key).is_none() && table.is_free(key)
 }
 
+/// One goes back from an exclusive lock to a shared one, which another may then share.
+fn weakened<A: Allocator>(table: &mut LockTable<A>, key: &Key) -> Option<Mode> {
+    if table.mode_of(0, key) == Some(Mode::Exclusive) {
+        table.restore(0, key, Some(Mode::Shared));
+    }
+    table.mode_of(0, key)
+}
+
+/// A session holds the key alone.
+fn locked_alone<A: Allocator + Copy>(alloc: A, key: &Key) -> Result<LockTable<A>, Fail> {
+    let mut table = LockTable::new(alloc)?;
+    table.request(0, key, Mode::Exclusive)?;
+    Ok(table)
+}
+
 /// A record with two versions.
 fn recorded<A: Allocator + Copy>(alloc: A, key: Key) -> Result<Store<A>, Fail> {
     let mut store = Store::new(alloc);
@@ -48,6 +66,12 @@ fn written<A: Allocator>(store: &mut Store<A>, slot: usize, value: Value<A>) -> 
     was_absent
 }
 
+/// Its stable version goes to the caller: whether that is what it was, and is gone then.
+fn taken<A: Allocator>(store: &mut Store<A>, slot: usize) -> bool {
+    let was_absent = matches!(store.take_stable(slot), Stable::Was(None));
+    was_absent && matches!(store.take_stable(slot), Stable::Empty)
+}
+
 /// It is marked, loses its stable version, and is set aside and considered again: whether it may go.
 fn considered<A: Allocator>(store: &mut Store<A>, slot: usize) -> bool {
     store.set_available(slot, true);
@@ -64,8 +88,8 @@ fn reclaimed<A: Allocator>(store: &mut Store<A>, slot: usize) -> bool {
     store.is_empty() && store.slots() == 1
 }
 
-/// Once there is room, and each growth is refused, a key is collected, frozen and cleared: whether it
-/// was in the set that it should be in.
+/// Once there is room, and each growth is refused, a key is collected, frozen, collected again, and frozen and
+/// cleared: whether it was in the set that it should be in.
 fn collected<A: Allocator>(
     heap: &Fallible<Global>,
     changed: &mut Changed<A>,
@@ -77,8 +101,13 @@ fn collected<A: Allocator>(
     let is_collected = changed.collects(&key);
     changed.freeze();
     let is_frozen = changed.freezes(&key) && changed.frozen_key(0) == Some(key);
+    if changed.frozen_count() <= changed.room() {
+        changed.rejoin();
+    }
+    let is_joined = changed.collects(&key) && changed.frozen_count() == 0;
+    changed.freeze();
     changed.clear_frozen();
-    Ok(is_collected && is_frozen && changed.frozen_count() == 0)
+    Ok(is_collected && is_frozen && is_joined && changed.frozen_count() == 0)
 }
 
 /// A catalog's procedures, one that reads its argument.
@@ -88,16 +117,38 @@ fn procedures<A: Allocator + Copy>(alloc: A) -> Result<Sequence<Procedure<A>, A>
     let mut procedures = Vec::with_capacity(alloc, 1)?;
     procedures.push_reserved(Procedure {
         arity: 1,
-        code: Sequence::new(code),
+        code: Code::new(code)?,
     });
     Ok(Sequence::new(procedures))
 }
 
 /// Whether they make a catalog, and no entries an image.
 fn made<A: Allocator + Copy>(alloc: A, procedures: Sequence<Procedure<A>, A>) -> bool {
-    let catalog = Catalog::new(procedures);
     let image = Image::new(Kind::Full, 1, 1, 0, Vec::new(alloc));
-    catalog.is_ok() && image.is_some()
+    let arity = match Catalog::new(procedures) {
+        Ok(catalog) => catalog.procedure(0).map(|procedure| procedure.arity),
+        Err(_) => None,
+    };
+    arity == Some(1) && image.is_some()
+}
+
+/// A call of a procedure that reads its argument, which was executed where that holds a number.
+fn executed<A: Allocator + Copy>(alloc: A) -> Result<Machine<A>, Fail> {
+    let procedures = procedures(alloc)?;
+    let mut args = Vec::new(alloc);
+    args.push(Value::of_number(1))?;
+    let procedure = procedures.get(0).ok_or("no procedure")?;
+    let mut machine = Machine::start(alloc, procedure, Sequence::new(args))?;
+    let found = Value::of_number(2);
+    machine.fed(Some(&found))?;
+    Ok(machine)
+}
+
+/// Whether it lends its one reply, and hands on its parts.
+fn replied<A: Allocator>(machine: Machine<A>) -> bool {
+    let is_one = machine.replies().len() == 1;
+    let (args, replies) = machine.into_parts();
+    is_one && args.len() == 1 && replies.len() == 1
 }
 
 /// What a core over one key lends.
@@ -105,21 +156,33 @@ fn lends<A: Allocator>(core: &Core<A>, key: &Key) -> bool {
     core.records().is_empty() && core.slots() == 1 && core.versions(key).is_some()
 }
 
+/// Its phase, how many procedures its catalog has, and how many entries its opening.
+fn shown<A: Allocator>(core: &Core<A>) -> (Phase, usize, usize) {
+    (
+        core.phase(),
+        core.catalog().len(),
+        core.opening().entries().len(),
+    )
+}
+
 /// Whether the calls of a lock table are answered.
 fn locks_answer<A: Allocator + Copy>(alloc: A, heap: &Fallible<Global>) -> Result<bool, Fail> {
     let key = key()?;
     let mut table = locked(alloc, &key)?;
+    let mut alone = locked_alone(alloc, &key)?;
     heap.arm(EVERY);
-    Ok(let_go(&mut table, &key))
+    let is_shared = weakened(&mut alone, &key) == Some(Mode::Shared);
+    Ok(let_go(&mut table, &key) && is_shared)
 }
 
 /// Whether those of a store are.
 fn store_answers<A: Allocator + Copy>(alloc: A, heap: &Fallible<Global>) -> Result<bool, Fail> {
     let mut store = recorded(alloc, key()?)?;
-    let value = Value::of_number(alloc, 2)?;
+    let value = Value::of_number(2);
     heap.arm(EVERY);
     let is_written = written(&mut store, 0, value);
-    Ok(is_written && considered(&mut store, 0) && reclaimed(&mut store, 0))
+    let is_taken = taken(&mut store, 0);
+    Ok(is_written && is_taken && considered(&mut store, 0) && reclaimed(&mut store, 0))
 }
 
 /// Whether those of the changed sets are.
@@ -128,11 +191,12 @@ fn sets_answer<A: Allocator + Copy>(alloc: A, heap: &Fallible<Global>) -> Result
     Ok(collected(heap, &mut changed, key()?)?)
 }
 
-/// Whether those of catalogs and images are.
+/// Whether those of catalogs, images and calls are.
 fn parts_answer<A: Allocator + Copy>(alloc: A, heap: &Fallible<Global>) -> Result<bool, Fail> {
     let procedures = procedures(alloc)?;
+    let machine = executed(alloc)?;
     heap.arm(EVERY);
-    Ok(made(alloc, procedures))
+    Ok(made(alloc, procedures) && replied(machine))
 }
 
 /// Whether what a core lends is there.
@@ -140,7 +204,7 @@ fn core_lends<A: Allocator + Copy>(alloc: A, heap: &Fallible<Global>) -> Result<
     let key = key()?;
     let core = opened(alloc, "'a #1")?;
     heap.arm(EVERY);
-    Ok(lends(&core, &key))
+    Ok(lends(&core, &key) && shown(&core) == (Phase::Rest, 8, 1))
 }
 
 #[test]

@@ -17,11 +17,13 @@ use Rattle.image.specs.declared.images.Kind.{Kind}
 use Rattle.steps.specs.CoreViews.{CoreView, Finishes, AnswersCall, Underway, front_of, one_more, open_at, Begun}
 use Rattle.steps.specs.Drives.{EachStands, calls_of}
 use Rattle.steps.specs.Refusals.{finish_refusal, step_refusal, unfinished, unstepped}
-use Rattle.steps.specs.Checkpointing.{AdvancesTo, CapturesAs, restarted}
+use Rattle.steps.specs.Checkpointing.{AdvancesTo, CapturesAs, CompletesBy, restarted}
 use Rattle.steps.specs.CutImages.{AllTaken, IsTaken}
 use Rattle.steps.specs.Schedules.{AbandonsAs, AdvancesAs, BeginsAs, FinishesAs, GivesUpAs, Handles, HandlesAll, HandlesWith, ReclaimsAs, StartsAs, StepsAs, TakesImage, VisitsAs, answer_to}
 use Rattle.steps.specs.Schedules.{answered_call, answered_calls, begun_by, image_in, images_in, is_accepted, is_taken, replies_in}
 use Rattle.steps.specs.declared.captures.Captured.{Captured}
+use Rattle.steps.specs.declared.checkpoints.Way.{Way}
+use Rattle.steps.specs.declared.checkpoints.Way.TheVariants.{Streamed, Whole}
 use Rattle.steps.specs.declared.captures.Captured.TheVariants.{Slot, Done}
 use Rattle.steps.specs.declared.errors.FinishError.{FinishError}
 use Rattle.steps.specs.declared.finish.Answer.{Answer}
@@ -161,6 +163,12 @@ start_handled B k old new (Ok x) h =
     (ap begun_in h.started)
 start_handled B k old new (Err x) h = same old new h.refused
 
+completed_by : (way : Way) (old new : CoreView) → CompletesBy way old new → Grows old new (begun_in old) []
+completed_by Whole old new h =
+    let e = h.2 in token_more old new Complete (number_of old.log) (ap (λ (v : CoreView). v.catalog) e) (ap (λ (v : CoreView). v.opening) e) (ap (λ (v : CoreView). v.log) e) (ap begun_in e)
+completed_by Streamed old new h =
+    let e = h.2 in token_more old new Complete (number_of old.log) (ap (λ (v : CoreView). v.catalog) e) (ap (λ (v : CoreView). v.opening) e) (ap (λ (v : CoreView). v.log) e) (ap begun_in e)
+
 -- what a change of phase leaves
 advanced_to : (p : Phase) (old new : CoreView) → AdvancesTo p old new → Grows old new (begun_in old) []
 advanced_to Prepare old new h = absurd h
@@ -168,8 +176,7 @@ advanced_to Resolve old new h =
     token_more old new Resolve (number_of old.log) (ap (λ (v : CoreView). v.catalog) h) (ap (λ (v : CoreView). v.opening) h) (ap (λ (v : CoreView). v.log) h) (ap begun_in h)
 advanced_to Capture old new h =
     let e = h.2 in token_more old new Capture (number_of old.log) (ap (λ (v : CoreView). v.catalog) e) (ap (λ (v : CoreView). v.opening) e) (ap (λ (v : CoreView). v.log) e) (ap begun_in e)
-advanced_to Complete old new h =
-    let e = h.2 in token_more old new Complete (number_of old.log) (ap (λ (v : CoreView). v.catalog) e) (ap (λ (v : CoreView). v.opening) e) (ap (λ (v : CoreView). v.log) e) (ap begun_in e)
+advanced_to Complete old new h = completed_by old.checkpoint.way old new h
 advanced_to Rest old new h =
     token_more old new Rest (number_of old.log) (ap (λ (v : CoreView). v.catalog) h) (ap (λ (v : CoreView). v.opening) h) (ap (λ (v : CoreView). v.log) h) (ap begun_in h)
 

@@ -23,6 +23,7 @@ use Rattle.steps.specs.Versions.{key_versions, versions_in}
 use Rattle.steps.specs.inside.RecordEdits.{KeepsSlots}
 use Rattle.steps.specs.machine.Invariant.{Gathers, Sets}
 use Rattle.steps.specs.Refusals.{is_cutting, is_held}
+use Rattle.steps.specs.inside.CheckpointFields.{is_unfinished}
 use Rattle.steps.specs.machine.Machine.{Resolves, Rests, cleaned_versions, more, resolve, rest}
 use Rattle.steps.specs.declared.cores.Core.TheInside.{Inside}
 use Rattle.steps.proofs.phases.AddedToken.{number_is, token_log, token_core}
@@ -94,6 +95,8 @@ module _ {A : Type 0} (c : Inside A) (ok : IsCore c) (log : Log) where
             place = λ cutting. ap length (before_here ok.world.number ok.world.log) ∙ sym (length-reverse ok.world.log) ∙ ap length ok.stands.log ∙ sym place_is;
             scan = tt;
             waits = ok.stands.checkpoint.waits;
+            heads = ok.stands.checkpoint.heads;
+            none_yet = λ unfinished. ok.stands.checkpoint.none_yet (ap is_unfinished (ok.stands.phase ∙ phase_is));
           };
         }
         (aside_kept c.aside c.store c.store (either c.changed) (either changed) c.locks c.locks (slots_same c.store c.store refl) now_frozen (λ q is. is) ok.aside)
@@ -136,6 +139,8 @@ module _ {A : Type 0} (c : Inside A) (ok : IsCore c) (log : Log) where
             place = λ cutting. absurd (true≢false (sym cutting));
             scan = tt;
             waits = ok.stands.checkpoint.waits;
+            heads = ok.stands.checkpoint.heads;
+            none_yet = λ unfinished. absurd (true≢false (sym unfinished));
           };
         }
         (aside_kept c.aside c.store store (either c.changed) (either c.changed) c.locks c.locks (subst (λ (l : Slots). KeepsSlots c.store l) (sym store_is) (slots_rested c.store)) (λ q is. is)

@@ -1,5 +1,5 @@
 -- A core after a checkpoint began.
-use Rattle.std.proofs.Common.{◌≡◌, suc, ◌+◌, [], ◌∷◌, ◌++◌, refl, sym, ap, ◌∙◌, arith, true≢false}
+use Rattle.std.proofs.Common.{◌≡◌, Some, None, suc, ◌+◌, [], ◌∷◌, ◌++◌, refl, sym, ap, ◌∙◌, arith, true≢false}
 use Rattle.phase.specs.declared.phases.Phase.TheVariants.{Rest, Prepare}
 use Rattle.commitlog.specs.Logs.{Log}
 use Rattle.commitlog.specs.Histories.{number_of}
@@ -9,12 +9,13 @@ use Rattle.steps.specs.inside.CoreFields.{IsCore, view_of}
 use Rattle.steps.specs.CoreViews.{CoreView}
 use Rattle.steps.specs.Checkpointing.{started}
 use Rattle.steps.specs.machine.Machine.{Starts, more, start}
+use Rattle.steps.specs.declared.checkpoints.Way.{Way}
 use Rattle.steps.specs.declared.cores.Core.TheInside.{Inside}
 use Rattle.steps.proofs.phases.AddedToken.{number_is, token_log, token_core}
 
-module _ {A : Type 0} (c : Inside A) (ok : IsCore c) (kind : Kind) (log : Log) (at_rest : c.phase ≡ Rest) (log_is : log.records ≡ c.log.records ++ Token Prepare (c.checkpoint.number + 1) ∷ []) where
+module _ {A : Type 0} (c : Inside A) (ok : IsCore c) (kind : Kind) (way : Way) (log : Log) (at_rest : c.phase ≡ Rest) (untaken : c.checkpoint.header ≡ None) (log_is : log.records ≡ c.log.records ++ Token Prepare (c.checkpoint.number + 1) ∷ []) where
   abbrev after_start : Inside A
-  after_start = record c { log = log; phase = Prepare; checkpoint = record c.checkpoint { number = c.checkpoint.number + 1; kind = kind } }
+  after_start = record c { log = log; phase = Prepare; checkpoint = record c.checkpoint { number = c.checkpoint.number + 1; kind = kind; way = way } }
 
   next_is : c.checkpoint.number + 1 ≡ suc ok.world.number
   next_is = let kept = ok.stands.checkpoint.number in omega (arith, kept)
@@ -24,7 +25,7 @@ module _ {A : Type 0} (c : Inside A) (ok : IsCore c) (kind : Kind) (log : Log) (
 
   pub start_core : IsCore after_start
   start_core =
-      token_core c ok Prepare (suc ok.world.number) log.records log_as log refl c.store c.changed (record c.checkpoint { number = c.checkpoint.number + 1; kind = kind }) c.aside (start ok.world kind)
+      token_core c ok Prepare (suc ok.world.number) log.records log_as log refl c.store c.changed (record c.checkpoint { number = c.checkpoint.number + 1; kind = kind; way = way }) c.aside (start ok.world kind)
       (more ok.run (Starts kind (ok.stands.phase ∙ at_rest)))
       record {
         catalog = ok.stands.catalog;
@@ -43,6 +44,8 @@ module _ {A : Type 0} (c : Inside A) (ok : IsCore c) (kind : Kind) (log : Log) (
           place = λ cutting. absurd (true≢false (sym cutting));
           scan = tt;
           waits = ok.stands.checkpoint.waits;
+          heads = λ h is. absurd (let no_header : None ≡ Some h = sym untaken ∙ is in cc);
+          none_yet = λ unfinished. untaken;
         };
       }
       ok.aside
@@ -50,7 +53,7 @@ module _ {A : Type 0} (c : Inside A) (ok : IsCore c) (kind : Kind) (log : Log) (
   pub start_number : (v : CoreView) → view_of c ≡ v → c.checkpoint.number + 1 ≡ suc (number_of v.log)
   start_number v same = next_is ∙ ap suc (number_is c ok) ∙ ap (λ (w : CoreView). suc (number_of w.log)) same
 
-  pub start_view : (v : CoreView) → view_of c ≡ v → view_of after_start ≡ started v kind
+  pub start_view : (v : CoreView) → view_of c ≡ v → view_of after_start ≡ started v kind way
   start_view v same =
       ap (λ l. record (view_of after_start) { log = l }) (log_as ∙ ap (λ n. c.log.records ++ Token Prepare (suc n) ∷ []) (number_is c ok))
-      ∙ ap (λ w. started w kind) same
+      ∙ ap (λ w. started w kind way) same

@@ -145,7 +145,7 @@ module _ {A : Type 0} (c : Inside A) (ok : IsCore c) (phase : c.phase ≡ Rest) 
       (vs : VersionsByKey) → Runs (initial c.catalog (table_of c.opening)) (record w { versions = vs }) → ((q : Bytes) → vs q ≡ versions_in store q) →
       AsideIn aside store (has c.changed.collecting) c.locks → IsCore with_store
   core_as vs run versions reasons =
-      stored_core c ok store aside c.checkpoint.captured c.checkpoint.cursor c.checkpoint.waiting vs w.given w.visited run versions unscanned ok.stands.checkpoint.waits (asides reasons)
+      stored_core c ok store aside c.checkpoint vs w.given w.visited refl refl refl refl run versions unscanned ok.stands.checkpoint.waits ok.stands.checkpoint.heads ok.stands.checkpoint.none_yet (asides reasons)
 
   -- the same versions
   pub same_core : ((q : Bytes) → versions_in store q ≡ versions_in c.store q) → AsideIn aside store (has c.changed.collecting) c.locks → IsCore with_store

@@ -1,5 +1,5 @@
 -- A core whose scan begins, and goes on by one place.
-use Rattle.std.proofs.Common.{List, ◌≡◌, ◌≢◌, ℕ, suc, ◌+◌, ◌<◌, ◌⊎◌, inl, inr, arith, Bool, true, false, cond, ◌||◌, [], ◌∷◌, ◌++◌, length, Option, Some, None, is_some, option_map, append-nil, Vec, refl, sym, ap, ◌∙◌, subst}
+use Rattle.std.proofs.Common.{List, ◌≡◌, ◌≢◌, ℕ, suc, ◌+◌, ◌<◌, ◌⊎◌, inl, inr, arith, Bool, true, false, replicate, length-append, cond, ◌||◌, [], ◌∷◌, ◌++◌, length, Option, Some, None, is_some, option_map, append-nil, Vec, refl, sym, ap, ◌∙◌, subst}
 use Rattle.std.specs.Prelude.{IsSome}
 use Rattle.std.proofs.lemmas.Bool.{cases_lt}
 use Rattle.procedure.specs.Bytes.{Bytes, Cell, same}
@@ -10,7 +10,7 @@ use Rattle.phase.specs.declared.phases.Phase.{Phase}
 use Rattle.phase.specs.declared.phases.Phase.TheVariants.{Rest, Prepare, Resolve, Capture, Complete}
 use Rattle.commitlog.specs.Logs.{Log}
 use Rattle.commitlog.specs.Records.{Token}
-use Rattle.image.specs.Headers.{EachKeyOnce as Once, map_of}
+use Rattle.image.specs.Headers.{EachKeyOnce as Once, chain_digest, linked, linked_all, map_of}
 use Rattle.image.specs.Merges.{is_full, table_of}
 use Rattle.image.specs.declared.images.Kind.{Kind}
 use Rattle.image.specs.declared.images.Kind.TheVariants.{Full, Partial}
@@ -26,10 +26,17 @@ use Rattle.steps.specs.inside.RecordEdits.{KeepsSlots}
 use Rattle.steps.specs.Versions.{given_at, given_of, kept_of, versions_in, KeyVersions, VersionsByKey, gives}
 use Rattle.steps.specs.machine.Invariant.{ScanKeeps, ScanKeepsIn}
 use Rattle.steps.specs.Refusals.{is_cutting, is_held}
-use Rattle.steps.specs.inside.CheckpointFields.{IsScan, ScansIn, places, spots}
+use Rattle.steps.specs.inside.CheckpointFields.{IsScan, ScansIn, is_unfinished, places, spots}
+use Rattle.steps.specs.inside.Sends.{IsRefused, IsSent}
+use Rattle.steps.specs.Streaming.{GivesNext, IsRefusedBy}
+use Rattle.steps.specs.declared.errors.CaptureToError.{CaptureToError}
 use Rattle.steps.specs.machine.Machine.{Captures, MayVisit, Runs, Visits, capture, initial, keeps, more, to_visit, visit}
 use Rattle.steps.specs.declared.captures.Captured.TheVariants.{Slot}
 use Rattle.steps.specs.declared.checkpoints.Checkpoint.{Checkpoint}
+use Rattle.steps.specs.declared.checkpoints.Tally.{Tally}
+use Rattle.steps.specs.declared.checkpoints.Way.TheVariants.{Streamed, Whole}
+use Rattle.steps.specs.declared.given.Given.{Given}
+use Rattle.pipe.specs.declared.taps.Tap.{Tap}
 use Rattle.steps.specs.declared.cores.Core.TheInside.{Inside}
 use Rattle.steps.proofs.phases.AddedToken.{token_log, token_core}
 use Rattle.steps.proofs.phases.FrozenKeys.{frozen_is}
@@ -39,6 +46,10 @@ use Rattle.steps.proofs.machine.OpenCalls.{same_Some}
 use Rattle.steps.proofs.scans.ScanPlaces.{frozen_at, given_more, once_more, one_spot, or_right, recorded_at, scan_begun, scan_on, some_key, the_version, visited_as, wanted_at}
 use Rattle.steps.proofs.store.SlotEdits.{scan_kept, spots_kept}
 use Rattle.steps.proofs.views.CoreState.{good, stored_core}
+
+linked-append : (d : Bytes) (es fs : List (Bytes × Cell)) → linked_all d (es ++ fs) ≡ linked_all (linked_all d es) fs
+linked-append d [] fs = refl
+linked-append d (e ∷ es) fs = linked-append (linked d e) es fs
 
 nothing_given : no_changes ≡ map_of []
 unfolding no_changes
@@ -64,16 +75,23 @@ module _ {A : Type 0} (c : Inside A) (ok : IsCore c) where
 
   -- A SCAN BEGINS
 
-  module _ (log : Log) (bound : ℕ) (empty : Vec (Bytes × Cell) A) (phase_is : c.phase ≡ Resolve) (free : is_held Resolve (view_of c).calls ≡ false)
-      (log_is : log.records ≡ c.log.records ++ Token Capture c.checkpoint.number ∷ []) (bound_is : bound ≡ places c.checkpoint.kind c.store c.changed.frozen) (empty_is : empty.items ≡ []) where
-    abbrev after_begin : Inside A
-    after_begin = record c { log = log; phase = Capture; checkpoint = record c.checkpoint { cursor = 0; bound = bound; captured = empty } }
+  module _ (log : Log) (bound : ℕ) (empty : Vec (Bytes × Cell) A) (none : Given (Bytes × Cell)) (tally : Tally) (phase_is : c.phase ≡ Resolve) (free : is_held Resolve (view_of c).calls ≡ false)
+      (log_is : log.records ≡ c.log.records ++ Token Capture c.checkpoint.number ∷ []) (bound_is : bound ≡ places c.checkpoint.kind c.store c.changed.frozen) (empty_is : empty.items ≡ []) (none_is : none.entries ≡ [])
+      (count_is : tally.count ≡ 0) (chain_is : tally.chain ≡ chain_digest []) where
+    abbrev begun : Checkpoint A
+    begun = record c.checkpoint { scan = c.checkpoint.kind; cursor = 0; bound = bound; captured = empty; given = none; tally = tally }
 
-    begun_scan : IsScan (record c.checkpoint { cursor = 0; bound = bound; captured = empty }) (spots c.checkpoint.kind c.store c.changed.frozen) (λ q. false)
+    abbrev after_begin : Inside A
+    after_begin = record c { log = log; phase = Capture; checkpoint = begun }
+
+    none_yet : c.checkpoint.header ≡ None
+    none_yet = ok.stands.checkpoint.none_yet (ap is_unfinished (ok.stands.phase ∙ phase_is))
+
+    begun_scan : IsScan begun (spots c.checkpoint.kind c.store c.changed.frozen) (λ q. false)
         (to_visit (is_full c.checkpoint.kind) ok.world.versions ok.world.frozen) no_changes
     begun_scan =
-        scan_begun (record c.checkpoint { cursor = 0; bound = bound; captured = empty }) (spots c.checkpoint.kind c.store c.changed.frozen)
-        (to_visit (is_full c.checkpoint.kind) ok.world.versions ok.world.frozen) no_changes empty_is refl nothing_given
+        scan_begun begun (spots c.checkpoint.kind c.store c.changed.frozen)
+        (to_visit (is_full c.checkpoint.kind) ok.world.versions ok.world.frozen) no_changes none_is empty_is count_is chain_is refl nothing_given
         (λ q is.
         let (i, below, at) = wanted_at c.checkpoint.kind c.store c.changed.frozen ok.world.versions ok.world.frozen ok.stands.versions ok.stands.frozen q is in
         (i, subst (λ n. i < n) (sym bound_is) below, at))
@@ -81,7 +99,7 @@ module _ {A : Type 0} (c : Inside A) (ok : IsCore c) where
     pub begin_core : IsCore after_begin
     begin_core =
         token_core c ok Capture ok.world.number log.records (number_here c ok log Capture log_is) log refl c.store c.changed
-        (record c.checkpoint { cursor = 0; bound = bound; captured = empty }) c.aside (capture ok.world (is_full c.checkpoint.kind))
+        begun c.aside (capture ok.world (is_full c.checkpoint.kind))
         (more ok.run (Captures (is_full c.checkpoint.kind) (ok.stands.phase ∙ phase_is) (all_started c ok Resolve free) (λ e. ap is_full (sym ok.stands.checkpoint.kind ∙ e))))
         record {
           catalog = ok.stands.catalog;
@@ -100,6 +118,8 @@ module _ {A : Type 0} (c : Inside A) (ok : IsCore c) where
             place = λ cutting. ap length (before_capture ok.world.number ok.world.number ok.world.log) ∙ ok.stands.checkpoint.place (ap is_cutting (ok.stands.phase ∙ phase_is));
             scan = begun_scan;
             waits = ok.stands.checkpoint.waits;
+            heads = λ h is. absurd (let no_header : None ≡ Some h = sym none_yet ∙ is in cc);
+            none_yet = λ unfinished. none_yet;
           };
         }
         (ok.aside)
@@ -114,15 +134,35 @@ module _ {A : Type 0} (c : Inside A) (ok : IsCore c) where
           bound,
           ends_at c.checkpoint.kind bound_is,
           ap (λ l. record (view_of after_begin) { log = l }) (entered_log c ok log Capture log_is)
-              ∙ ap (λ l. record (entered (view_of c) Capture) { checkpoint = record (view_of c).checkpoint { cursor = 0; bound = bound; captured = l } }) empty_is,
+              ∙ ap (λ l. record (entered (view_of c) Capture) { checkpoint = record (view_of c).checkpoint { scan = c.checkpoint.kind; cursor = 0; bound = bound; given = l } }) none_is,
         )
 
-module _ {A : Type 0} (c : Inside A) (ok : IsCore c) (store : Slots) (kept : Vec (Bytes × Cell) A) (key : Option Bytes) where
+module _ {A : Type 0} (c : Inside A) (ok : IsCore c) (phase_is : c.phase ≡ Capture) (key : Option Bytes) where
+  visits_next : (kind : Kind) → key ≡ spots kind c.store c.changed.frozen c.checkpoint.cursor → VisitsNext kind (view_of c) key
+  visits_next Full e = e
+  visits_next Partial e = (c.changed.frozen, frozen_is c ok (ap is_cutting phase_is), e)
+
+  -- why a visit into a ring is refused
+  pub refused_to :
+      key ≡ spots c.checkpoint.kind c.store c.changed.frozen c.checkpoint.cursor → (tap : Tap A) (e : CaptureToError) → IsRefused c.checkpoint.kind (given_of (versions_in c.store) key) tap e →
+      (v : CoreView) → view_of c ≡ v → IsRefusedBy v tap e
+  refused_to here tap e (inl memory) v same = inl memory
+  refused_to here tap e (inr (full, gives, room)) v same =
+      inr (full, subst GivesNext same (record { key = key; next = visits_next c.checkpoint.kind here; gives = gives }), room)
+
+module _ {A : Type 0} (c : Inside A) (ok : IsCore c) (store : Slots) (kept : Vec (Bytes × Cell) A) (given : Given (Bytes × Cell)) (tally : Tally) (key : Option Bytes) where
   abbrev spot : ℕ → Option Bytes
   spot = spots c.checkpoint.kind c.store c.changed.frozen
 
+  abbrev one_on : Checkpoint A
+  one_on = record c.checkpoint { captured = kept; given = given; tally = tally; cursor = c.checkpoint.cursor + 1 }
+
   abbrev after_capture : Inside A
-  after_capture = record c { store = store; checkpoint = record c.checkpoint { captured = kept; cursor = c.checkpoint.cursor + 1 } }
+  after_capture = record c { store = store; checkpoint = one_on }
+
+  -- what the place gives
+  abbrev new_entries : List (Bytes × Cell)
+  new_entries = kept_of c.checkpoint.kind (given_of (versions_in c.store) key)
 
   -- one place of a scan
   pub record IsVisit : Type 0 where
@@ -133,16 +173,20 @@ module _ {A : Type 0} (c : Inside A) (ok : IsCore c) (store : Slots) (kept : Vec
     pub keys : (slot : ℕ) → key_at store slot ≡ key_at c.store slot
     pub aside : (slot : ℕ) → aside_at store slot ≡ aside_at c.store slot
     pub versions : (q : Bytes) → versions_in store q ≡ visited key q (versions_in c.store q)
-    pub kept_is : kept.items ≡ c.checkpoint.captured.items ++ kept_of c.checkpoint.kind (given_of (versions_in c.store) key)
+    pub given_is : given.entries ≡ c.checkpoint.given.entries ++ new_entries
+    pub captured : c.checkpoint.way ≡ Whole → kept.items ≡ given.entries
+    pub count : c.checkpoint.way ≡ Streamed → tally.count ≡ length given.entries
+    pub chain : c.checkpoint.way ≡ Streamed → tally.chain ≡ chain_digest given.entries
 
   -- in a list that had been given room
   pub visit_by :
-      (roomy : List (Bytes × Cell)) (given : Option (Bytes × Cell)) → c.phase ≡ Capture → c.checkpoint.cursor ≢ c.checkpoint.bound → key ≡ spot c.checkpoint.cursor →
+      (roomy : List (Bytes × Cell)) (held : Option (Bytes × Cell)) → c.checkpoint.way ≡ Whole → c.phase ≡ Capture → c.checkpoint.cursor ≢ c.checkpoint.bound → key ≡ spot c.checkpoint.cursor →
       (IsSome key → HasKeysOnce c.store) →
       ((slot : ℕ) → key_at store slot ≡ key_at c.store slot) → ((slot : ℕ) → aside_at store slot ≡ aside_at c.store slot) →
       ((q : Bytes) → versions_in store q ≡ visited key q (versions_in c.store q)) →
-      kept.items ≡ roomy ++ kept_of c.checkpoint.kind given → roomy ≡ c.checkpoint.captured.items → given ≡ given_of (versions_in c.store) key → IsVisit
-  visit_by roomy given phase left key_is once keys aside versions kept_is same_items given_is = record {
+      kept.items ≡ roomy ++ kept_of c.checkpoint.kind held → given.entries ≡ c.checkpoint.given.entries ++ kept_of c.checkpoint.kind held → roomy ≡ c.checkpoint.captured.items →
+      held ≡ given_of (versions_in c.store) key → IsVisit
+  visit_by roomy held whole phase left key_is once keys aside versions kept_is given_is same_items held_is = record {
     phase = phase;
     left = left;
     key_is = key_is;
@@ -150,7 +194,38 @@ module _ {A : Type 0} (c : Inside A) (ok : IsCore c) (store : Slots) (kept : Vec
     keys = keys;
     aside = aside;
     versions = versions;
-    kept_is = kept_is ∙ ap (λ l. l ++ kept_of c.checkpoint.kind given) same_items ∙ ap (λ o. c.checkpoint.captured.items ++ kept_of c.checkpoint.kind o) given_is;
+    given_is = given_is ∙ ap (λ o. c.checkpoint.given.entries ++ kept_of c.checkpoint.kind o) held_is;
+    captured = λ way.
+        kept_is ∙ ap (λ l. l ++ kept_of c.checkpoint.kind held) (same_items ∙ (scan_here c ok phase).captured whole) ∙ sym given_is;
+    count = λ way. absurd (let one : Whole ≡ Streamed = sym whole ∙ way in cc);
+    chain = λ way. absurd (let one : Whole ≡ Streamed = sym whole ∙ way in cc);
+  }
+
+  -- into a ring
+  pub visit_to :
+      {tap after : Tap A} → c.checkpoint.way ≡ Streamed → c.phase ≡ Capture → c.checkpoint.cursor ≢ c.checkpoint.bound → key ≡ spot c.checkpoint.cursor →
+      (IsSome key → HasKeysOnce c.store) →
+      ((slot : ℕ) → key_at store slot ≡ key_at c.store slot) → ((slot : ℕ) → aside_at store slot ≡ aside_at c.store slot) →
+      ((q : Bytes) → versions_in store q ≡ visited key q (versions_in c.store q)) →
+      IsSent new_entries tap after c.checkpoint.given given c.checkpoint.tally tally → IsVisit
+  visit_to streamed phase left key_is once keys aside versions sent = record {
+    phase = phase;
+    left = left;
+    key_is = key_is;
+    once = once;
+    keys = keys;
+    aside = aside;
+    versions = versions;
+    given_is = sent.gave;
+    captured = λ way. absurd (let one : Streamed ≡ Whole = sym streamed ∙ way in cc);
+    count = λ way.
+        let more = sent.count in
+        let was = (scan_here c ok phase).count streamed in
+        let all = ap length sent.gave ∙ length-append c.checkpoint.given.entries new_entries in
+        omega (arith, more, was, all);
+    chain = λ way.
+        sent.chain ∙ ap (λ d. linked_all d new_entries) ((scan_here c ok phase).chain streamed) ∙ sym (linked-append (replicate 32 0) c.checkpoint.given.entries new_entries)
+        ∙ ap chain_digest (sym sent.gave);
   }
 
   module _ (is : IsVisit) where
@@ -163,29 +238,33 @@ module _ {A : Type 0} (c : Inside A) (ok : IsCore c) (store : Slots) (kept : Vec
     keeps_slots : KeepsSlots c.store store
     keeps_slots = record { keys = λ slot q at. is.keys slot ∙ at; aside = λ slot so. sym (is.aside slot) ∙ so }
 
+    none_waits : c.checkpoint.header ≡ None
+    none_waits = ok.stands.checkpoint.none_yet (ap is_unfinished (phase_here c ok is.phase))
+
     -- the core, by the machine's state
     core_as :
-        (vs : VersionsByKey) (given : Changes) (seen : Bytes → Bool) → Runs (initial c.catalog (table_of c.opening)) (record ok.world { versions = vs; given = given; visited = seen }) →
-        ((q : Bytes) → vs q ≡ versions_in store q) → IsScan (record c.checkpoint { captured = kept; cursor = c.checkpoint.cursor + 1 }) spot seen ok.world.bound given → IsCore after_capture
-    core_as vs given seen run versions scan =
-        stored_core c ok store c.aside kept (c.checkpoint.cursor + 1) c.checkpoint.waiting vs given seen run versions
-        (subst (λ p. ScansIn p (record c.checkpoint { captured = kept; cursor = c.checkpoint.cursor + 1 }) (spots c.checkpoint.kind store c.changed.frozen) seen ok.world.bound given)
+        (vs : VersionsByKey) (all : Changes) (seen : Bytes → Bool) → Runs (initial c.catalog (table_of c.opening)) (record ok.world { versions = vs; given = all; visited = seen }) →
+        ((q : Bytes) → vs q ≡ versions_in store q) → IsScan one_on spot seen ok.world.bound all → IsCore after_capture
+    core_as vs all seen run versions scan =
+        stored_core c ok store c.aside one_on vs all seen refl refl refl refl run versions
+        (subst (λ p. ScansIn p one_on (spots c.checkpoint.kind store c.changed.frozen) seen ok.world.bound all)
         (sym (phase_here c ok is.phase))
-        (scan_kept Capture (record c.checkpoint { captured = kept; cursor = c.checkpoint.cursor + 1 }) spot (spots c.checkpoint.kind store c.changed.frozen) seen ok.world.bound given
+        (scan_kept Capture one_on spot (spots c.checkpoint.kind store c.changed.frozen) seen ok.world.bound all
         (spots_kept c.checkpoint.kind c.store store c.changed.frozen keeps_slots) scan))
-        ok.stands.checkpoint.waits (aside_kept c.aside c.store store (either c.changed) (either c.changed) c.locks c.locks keeps_slots (λ q e. e) (λ q e. e) ok.aside)
+        ok.stands.checkpoint.waits
+        (λ h here. absurd (let no_header : None ≡ Some h = sym none_waits ∙ here in cc)) (λ unfinished. none_waits) (aside_kept c.aside c.store store (either c.changed) (either c.changed) c.locks c.locks keeps_slots (λ q e. e) (λ q e. e) ok.aside)
 
     -- where no key stands, nothing is visited
     vacant_core : key ≡ None → IsCore after_capture
     vacant_core none =
         core_as ok.world.versions ok.world.given ok.world.visited ok.run
         (λ q. ok.stands.versions q ∙ sym (is.versions q ∙ ap (λ o. visited o q (versions_in c.store q)) none))
-        (scan_on c.checkpoint kept spot ok.world.visited ok.world.visited ok.world.bound ok.world.given ok.world.given key (scan_here c ok is.phase) (sym is.key_is) below
+        (scan_on c.checkpoint kept given tally spot ok.world.visited ok.world.visited ok.world.bound ok.world.given ok.world.given key (scan_here c ok is.phase) (sym is.key_is) below
         (λ q seen. inl seen) (λ q seen. seen) (λ q here. absurd (let no : None ≡ Some q = sym none ∙ here in cc))
-        ((scan_here c ok is.phase).captured ∙ ap map_of (sym same_items)) (subst Once (sym same_items) (scan_here c ok is.phase).once))
+        ((scan_here c ok is.phase).gave ∙ ap map_of (sym same_entries)) (subst Once (sym same_entries) (scan_here c ok is.phase).once) is.captured is.count is.chain)
       where
-        same_items : kept.items ≡ c.checkpoint.captured.items
-        same_items = is.kept_is ∙ ap (λ o. c.checkpoint.captured.items ++ kept_of c.checkpoint.kind (given_of (versions_in c.store) o)) none ∙ append-nil c.checkpoint.captured.items
+        same_entries : given.entries ≡ c.checkpoint.given.entries
+        same_entries = is.given_is ∙ ap (λ o. c.checkpoint.given.entries ++ kept_of c.checkpoint.kind (given_of (versions_in c.store) o)) none ∙ append-nil c.checkpoint.given.entries
 
     module _ (k : Bytes) (here : key ≡ Some k) where
       at_cursor : spot c.checkpoint.cursor ≡ Some k
@@ -210,16 +289,16 @@ module _ {A : Type 0} (c : Inside A) (ok : IsCore c) (store : Slots) (kept : Vec
       may : MayVisit ok.world k v
       may = record { phase = (phase_here c ok is.phase); is = ok.stands.versions k ∙ found.1; unvisited = unvisited }
 
-      new_entry : change_at (map_of c.checkpoint.captured.items) k ≡ None
+      new_entry : change_at (map_of c.checkpoint.given.entries) k ≡ None
       new_entry =
-          ap (λ (m : Changes). change_at m k) (sym (scan_here c ok is.phase).captured) ∙ (scan_good c ok is.phase).entries k
+          ap (λ (m : Changes). change_at m k) (sym (scan_here c ok is.phase).gave) ∙ (scan_good c ok is.phase).entries k
           ∙ ap (λ b. cond b (keeps ok.world.kind (ok.world.frozen k) (Some (value_at (at ok.world.catalog ok.world.opening ok.world.number ok.world.log) k))) None) unvisited
 
-      items_are : kept.items ≡ c.checkpoint.captured.items ++ kept_of c.checkpoint.kind (option_map (λ y. (k, y)) (gives v))
-      items_are =
-          is.kept_is
-          ∙ ap (λ o. c.checkpoint.captured.items ++ kept_of c.checkpoint.kind (given_of (versions_in c.store) o)) here
-          ∙ ap (λ o. c.checkpoint.captured.items ++ kept_of c.checkpoint.kind (given_at k o)) found.1
+      entries_are : given.entries ≡ c.checkpoint.given.entries ++ kept_of c.checkpoint.kind (option_map (λ y. (k, y)) (gives v))
+      entries_are =
+          is.given_is
+          ∙ ap (λ o. c.checkpoint.given.entries ++ kept_of c.checkpoint.kind (given_of (versions_in c.store) o)) here
+          ∙ ap (λ o. c.checkpoint.given.entries ++ kept_of c.checkpoint.kind (given_at k o)) found.1
 
       frozen_here : ok.world.kind ≡ Partial → ok.world.frozen k ≡ true
       frozen_here e = ok.stands.frozen k ∙ frozen_at c.checkpoint.kind c.store c.changed.frozen c.checkpoint.cursor k at_cursor (sym ok.stands.checkpoint.kind ∙ e)
@@ -228,12 +307,12 @@ module _ {A : Type 0} (c : Inside A) (ok : IsCore c) (store : Slots) (kept : Vec
       visited_core =
           core_as (visit ok.world k v).versions (visit ok.world k v).given (with_key k ok.world.visited) (more ok.run (Visits k v may))
           (λ q. visited_as (versions_in c.store) ok.world.versions k v q ok.stands.versions found.1 ∙ sym (is.versions q ∙ ap (λ o. visited o q (versions_in c.store q)) here))
-          (scan_on c.checkpoint kept spot ok.world.visited (with_key k ok.world.visited) ok.world.bound ok.world.given (visit ok.world k v).given key (scan_here c ok is.phase) (sym is.key_is) below
+          (scan_on c.checkpoint kept given tally spot ok.world.visited (with_key k ok.world.visited) ok.world.bound ok.world.given (visit ok.world k v).given key (scan_here c ok is.phase) (sym is.key_is) below
           grown (λ q seen. or_right (same q k) (ok.world.visited q) seen) (λ q this. now q (same_Some (sym here ∙ this)))
-          (given_more ok.world.kind k (ok.world.frozen k) (gives v) ok.world.given c.checkpoint.captured.items frozen_here (scan_here c ok is.phase).captured
-          ∙ ap (λ kind. map_of (c.checkpoint.captured.items ++ kept_of kind (option_map (λ y. (k, y)) (gives v)))) ok.stands.checkpoint.kind
-          ∙ ap map_of (sym items_are))
-          (subst Once (sym items_are) (once_more c.checkpoint.kind k (gives v) c.checkpoint.captured.items new_entry (scan_here c ok is.phase).once)))
+          (given_more ok.world.kind k (ok.world.frozen k) (gives v) ok.world.given c.checkpoint.given.entries frozen_here (scan_here c ok is.phase).gave
+          ∙ ap (λ kind. map_of (c.checkpoint.given.entries ++ kept_of kind (option_map (λ y. (k, y)) (gives v)))) ok.stands.checkpoint.kind
+          ∙ ap map_of (sym entries_are))
+          (subst Once (sym entries_are) (once_more c.checkpoint.kind k (gives v) c.checkpoint.given.entries new_entry (scan_here c ok is.phase).once)) is.captured is.count is.chain)
         where
           grown : (q : Bytes) → (same q k || ok.world.visited q) ≡ true → (ok.world.visited q ≡ true) ⊎ (key ≡ Some q)
           grown q e =
@@ -252,20 +331,16 @@ module _ {A : Type 0} (c : Inside A) (ok : IsCore c) (store : Slots) (kept : Vec
         by None e = vacant_core e
         by (Some k) e = visited_core k e
 
-    visits_next : (kind : Kind) → key ≡ spots kind c.store c.changed.frozen c.checkpoint.cursor → VisitsNext kind (view_of c) key
-    visits_next Full e = e
-    visits_next Partial e = (c.changed.frozen, frozen_is c ok (ap is_cutting is.phase), e)
-
     pub capture_view : (u : CoreView) → view_of c ≡ u → CapturesAs Slot u (view_of after_capture)
     capture_view u same =
         subst (λ (u : CoreView). CapturesAs Slot u (view_of after_capture)) same
         record {
           key = key;
-          next = visits_next c.checkpoint.kind is.key_is;
+          next = visits_next c ok is.phase key c.checkpoint.kind is.key_is;
           below = below;
           rest =
-              ap (λ n. record (view_of c) { slots = store; checkpoint = record (view_of c).checkpoint { cursor = n; captured = kept.items } }) one
-              ∙ ap (λ l. record (view_of c) { slots = store; checkpoint = record (view_of c).checkpoint { cursor = suc c.checkpoint.cursor; captured = l } }) is.kept_is;
+              ap (λ n. record (view_of c) { slots = store; checkpoint = record (view_of c).checkpoint { cursor = n; given = given.entries } }) one
+              ∙ ap (λ l. record (view_of c) { slots = store; checkpoint = record (view_of c).checkpoint { cursor = suc c.checkpoint.cursor; given = l } }) is.given_is;
           slots = is.keys;
           versions = is.versions;
         }
@@ -281,9 +356,11 @@ module _ {A : Type 0} where
     visited = scan.visited;
     to_visit = scan.to_visit;
     within = scan.within;
-    captured = scan.captured ∙ ap map_of (sym e);
-    once =
-        subst Once (sym e) scan.once;
+    gave = scan.gave;
+    once = scan.once;
+    captured = λ way. e ∙ scan.captured way;
+    count = scan.count;
+    chain = scan.chain;
   }
   scan_room Rest k kept spot seen wanted given e scan = tt
   scan_room Prepare k kept spot seen wanted given e scan = tt
@@ -298,10 +375,29 @@ module _ {A : Type 0} where
     pub roomy_scan : (store : Slots) → store ≡ c.store → IsCore (with_room store)
     roomy_scan store e =
         subst (λ (s : Slots). IsCore (with_room s)) (sym e)
-        (stored_core c ok c.store c.aside kept c.checkpoint.cursor c.checkpoint.waiting ok.world.versions ok.world.given ok.world.visited ok.run ok.stands.versions
-        (scan_room ok.world.phase c.checkpoint kept _ ok.world.visited ok.world.bound ok.world.given same_items ok.stands.checkpoint.scan) ok.stands.checkpoint.waits ok.aside)
+        (stored_core c ok c.store c.aside (record c.checkpoint { captured = kept }) ok.world.versions ok.world.given ok.world.visited refl refl refl refl ok.run ok.stands.versions
+        (scan_room ok.world.phase c.checkpoint kept _ ok.world.visited ok.world.bound ok.world.given same_items ok.stands.checkpoint.scan) ok.stands.checkpoint.waits ok.stands.checkpoint.heads
+        ok.stands.checkpoint.none_yet ok.aside)
 
     pub roomy_scan_view : (v : CoreView) → view_of c ≡ v → (store : Slots) → store ≡ c.store → view_of (with_room store) ≡ v
     roomy_scan_view v same store e =
-        ap (λ l. record (view_of c) { slots = store; checkpoint = record (view_of c).checkpoint { captured = l } }) same_items
-        ∙ ap (λ (s : Slots). record (view_of c) { slots = s }) e ∙ same
+        ap (λ (s : Slots). record (view_of c) { slots = s }) e ∙ same
+
+-- NOTHING IS SENT
+
+module _ {A : Type 0} (c : Inside A) (ok : IsCore c) (store : Slots) (given : Given (Bytes × Cell)) (tally : Tally) (store_is : store ≡ c.store) (given_is : given ≡ c.checkpoint.given)
+    (tally_is : tally ≡ c.checkpoint.tally) where
+  abbrev unsent : Inside A
+  unsent = record c { store = store; checkpoint = record c.checkpoint { given = given; tally = tally } }
+
+  unchanged : unsent ≡ c
+  unchanged =
+      ap (λ (s : Slots). record c { store = s; checkpoint = record c.checkpoint { given = given; tally = tally } }) store_is
+      ∙ ap (λ (g : Given (Bytes × Cell)). record c { checkpoint = record c.checkpoint { given = g; tally = tally } }) given_is
+      ∙ ap (λ (t : Tally). record c { checkpoint = record c.checkpoint { tally = t } }) tally_is
+
+  pub unsent_core : IsCore unsent
+  unsent_core = subst IsCore (sym unchanged) ok
+
+  pub unsent_view : (v : CoreView) → view_of c ≡ v → view_of unsent ≡ v
+  unsent_view v same = ap (λ (d : Inside A). view_of d) unchanged ∙ same

@@ -1,5 +1,5 @@
 -- A core whose image is finished.
-use Rattle.std.proofs.Common.{◌≡◌, ℕ, ◌+◌, ◌<◌, ◌≤◌, inl, inr, arith, Bool, true, false, cond, List, [], ◌∷◌, ◌++◌, get_or, reverse, Option, Some, None, is_some, Vec, refl, sym, ap, ◌∙◌, subst, true≢false}
+use Rattle.std.proofs.Common.{◌≡◌, ℕ, ◌+◌, ◌<◌, ◌≤◌, inl, inr, arith, Bool, true, false, cond, List, [], ◌∷◌, ◌++◌, get_or, length, reverse, Option, Some, None, is_some, Vec, refl, sym, ap, ◌∙◌, subst, true≢false}
 use Rattle.std.specs.Prelude.{IsSome, nat_lt}
 use Rattle.std.specs.Cmp.Lexicographic.{nat_list_cmp_total}
 use Rattle.std.specs.FinMap as fin
@@ -16,10 +16,11 @@ use Rattle.commitlog.specs.Records.{Record, Token}
 use Rattle.image.proofs.Joins.{is_true}
 use Rattle.image.proofs.Rising.{by_bytes, find_at}
 use Rattle.image.proofs.Sorting.{changes_of-captured}
-use Rattle.image.specs.Headers.{EachKeyOnce, map_of, of_captured}
+use Rattle.image.specs.Headers.{FitsHeader, assembled, map_of, of_captured}
 use Rattle.image.specs.Images as taken
 use Rattle.image.specs.Images.{AllPresent, IsLawfulImage, SuitsKind}
 use Rattle.image.specs.Merges.{table_of}
+use Rattle.image.specs.declared.headers.Header.{Header}
 use Rattle.image.specs.declared.images.Kind.{Kind}
 use Rattle.image.specs.declared.images.Kind.TheVariants.{Full, Partial}
 use Rattle.image.specs.declared.limits.TheConstants.{ENTRIES}
@@ -29,16 +30,18 @@ use Rattle.record_store.specs.Stores as store
 use Rattle.record_store.specs.Versions as stored
 use Rattle.record_store.specs.declared.limits.TheConstants.{STORE_RECORDS}
 use Rattle.steps.specs.machine.NewestFirst.{MachineImage, IsCut, at, before, history_last_finished, history_number, since}
-use Rattle.steps.specs.Checkpointing.{AdvancesTo, IsImageOf, entered}
+use Rattle.steps.specs.Checkpointing.{AdvancesTo, CompletesBy, IsImageOf}
 use Rattle.steps.specs.inside.CoreFields.{IsCore, view_of}
 use Rattle.steps.specs.CoreViews.{CoreView}
 use Rattle.steps.specs.CutImages.{IsCutOf, IsOfKind}
 use Rattle.steps.specs.machine.Invariant.{IsFinishedImage}
 use Rattle.steps.specs.Refusals.{is_cutting}
 use Rattle.steps.specs.Promises.{machine_plain}
-use Rattle.steps.specs.inside.CheckpointFields.{machine_image}
+use Rattle.steps.specs.inside.CheckpointFields.{IsHead, is_unfinished, machine_image}
+use Rattle.steps.specs.machine.ScheduleAnswers.{Among}
 use Rattle.steps.specs.machine.Machine.{Completes, Runs, State, base_at, complete, image, initial, keeps, more}
 use Rattle.steps.specs.declared.checkpoints.Checkpoint.{Checkpoint}
+use Rattle.steps.specs.declared.checkpoints.Way.TheVariants.{Streamed, Whole}
 use Rattle.steps.specs.declared.cores.Core.TheInside.{Inside}
 use Rattle.steps.proofs.scans.CapturingCore.{phase_here, recorded, scan_good, scan_here}
 use Rattle.steps.proofs.log.Cuts.{at_cut-reverse, written-reverse}
@@ -97,25 +100,26 @@ module _ {A : Type 0} where
   abbrev pub image_at : Checkpoint A → List taken.Entry → taken.Image
   image_at k es = of_captured k.kind k.number (base_at k.kind k.number k.finished) k.place es
 
-  pub same_image : (k : Checkpoint A) (v : Vec (Bytes × Cell) A) (i : taken.Image) → i ≡ image_at k v.items → v ≡ k.captured → i ≡ image_at k k.captured.items
-  same_image k v i e f = e ∙ ap (λ (u : Vec (Bytes × Cell) A). image_at k u.items) f
+  pub same_image : (k : Checkpoint A) (es : List taken.Entry) (i : taken.Image) → i ≡ image_at k es → es ≡ k.given.entries → i ≡ image_at k k.given.entries
+  same_image k es i e f = e ∙ ap (image_at k) f
 
-  pub same_once : (k : Checkpoint A) (v : Vec (Bytes × Cell) A) → v ≡ k.captured → EachKeyOnce k.captured.items → EachKeyOnce v.items
-  same_once k v f once = subst (λ (u : Vec (Bytes × Cell) A). EachKeyOnce u.items) (sym f) once
-
-  pub same_lawful : (k : Checkpoint A) (v : Vec (Bytes × Cell) A) → v ≡ k.captured → IsLawfulImage (image_at k k.captured.items) → IsLawfulImage (image_at k v.items)
-  same_lawful k v f lawful = subst (λ (u : Vec (Bytes × Cell) A). IsLawfulImage (image_at k u.items)) (sym f) lawful
+  pub same_lawful : (k : Checkpoint A) (es : List taken.Entry) → es ≡ k.given.entries → IsLawfulImage (image_at k k.given.entries) → IsLawfulImage (image_at k es)
+  same_lawful k es f lawful = subst (λ l. IsLawfulImage (image_at k l)) (sym f) lawful
 
 module _ {A : Type 0} (c : Inside A) (ok : IsCore c) (phase_is : c.phase ≡ Capture) where
   abbrev w : State
   w = ok.world
 
   abbrev entries : Changes
-  entries = map_of c.checkpoint.captured.items
+  entries = map_of c.checkpoint.given.entries
 
   -- the image as the core makes it
   abbrev made : taken.Image
-  made = image_at c.checkpoint c.checkpoint.captured.items
+  made = image_at c.checkpoint c.checkpoint.given.entries
+
+  -- a list that was the captured one has what was given
+  pub all_given : c.checkpoint.way ≡ Whole → (v : Vec (Bytes × Cell) A) → v ≡ c.checkpoint.captured → v.items ≡ c.checkpoint.given.entries
+  all_given way v e = ap (λ (u : Vec (Bytes × Cell) A). u.items) e ∙ (scan_here c ok phase_is).captured way
 
   cutting : is_cutting c.phase ≡ true
   cutting = ap is_cutting phase_is
@@ -127,7 +131,7 @@ module _ {A : Type 0} (c : Inside A) (ok : IsCore c) (phase_is : c.phase ≡ Cap
 
   entry_is : (q : Bytes) → change_at entries q ≡ cond (w.visited q) (keeps c.checkpoint.kind (w.frozen q) (Some (value_at at_token q))) None
   entry_is q =
-      ap (λ (m : Changes). change_at m q) (sym (scan_here c ok phase_is).captured) ∙ (scan_good c ok phase_is).entries q
+      ap (λ (m : Changes). change_at m q) (sym (scan_here c ok phase_is).gave) ∙ (scan_good c ok phase_is).entries q
       ∙ ap (λ k. cond (w.visited q) (keeps k (w.frozen q) (Some (value_at at_token q))) None) ok.stands.checkpoint.kind
 
   has_record : (q : Bytes) → is_some (change_at entries q) ≡ true → is_some (stored.version_of c.store q) ≡ true
@@ -165,6 +169,13 @@ module _ {A : Type 0} (c : Inside A) (ok : IsCore c) (phase_is : c.phase ≡ Cap
     kind = suits c.checkpoint.kind refl;
   }
 
+  -- as many entries were given as an image may have, at most
+  pub few_given : store.records c.store ≤ STORE_RECORDS → length c.checkpoint.given.entries ≤ ENTRIES
+  few_given most =
+      let few = few_changes c.store entries has_record in
+      let once = (scan_here c ok phase_is).once in
+      omega (arith, few, most, once)
+
   -- IT IS THE MACHINE'S
 
   abbrev image_with : Kind → (number finished place : ℕ) → Changes → MachineImage
@@ -173,8 +184,8 @@ module _ {A : Type 0} (c : Inside A) (ok : IsCore c) (phase_is : c.phase ≡ Cap
   machine_is : machine_image made ≡ image w
   machine_is =
       ap (image_with c.checkpoint.kind c.checkpoint.number c.checkpoint.finished c.checkpoint.place)
-      (changes_of-captured c.checkpoint.kind c.checkpoint.number (base_at c.checkpoint.kind c.checkpoint.number c.checkpoint.finished) c.checkpoint.place c.checkpoint.captured.items
-      ∙ sym (scan_here c ok phase_is).captured)
+      (changes_of-captured c.checkpoint.kind c.checkpoint.number (base_at c.checkpoint.kind c.checkpoint.number c.checkpoint.finished) c.checkpoint.place c.checkpoint.given.entries
+      ∙ sym (scan_here c ok phase_is).gave)
       ∙ ap (λ k. image_with k c.checkpoint.number c.checkpoint.finished c.checkpoint.place w.given) (sym ok.stands.checkpoint.kind)
       ∙ ap (λ n. image_with w.kind n c.checkpoint.finished c.checkpoint.place w.given) (sym ok.stands.checkpoint.number)
       ∙ ap (λ f. image_with w.kind w.number f c.checkpoint.place w.given) (sym ok.stands.checkpoint.finished)
@@ -237,23 +248,28 @@ module _ {A : Type 0} (c : Inside A) (ok : IsCore c) (phase_is : c.phase ≡ Cap
       cut = made_cut;
     }
 
-  module _ (log : Log) (changed : ChangedSets) (empty : Vec (Bytes × Cell) A) (i : taken.Image) (scanned : nat_lt c.checkpoint.cursor c.checkpoint.bound ≡ false)
-      (log_is : log.records ≡ c.log.records ++ Token Complete c.checkpoint.number ∷ []) (changed_is : changed ≡ record c.changed { frozen = empty_set }) (i_is : i ≡ made)
-      (empty_is : empty.items ≡ []) where
-    abbrev after_complete : Inside A
-    after_complete =
-        record c { log = log; changed = changed; phase = Complete; checkpoint = record c.checkpoint { finished = c.checkpoint.number; captured = empty; waiting = Some i }; aside = Unknown }
+  none_waits : c.checkpoint.header ≡ None
+  none_waits = ok.stands.checkpoint.none_yet (ap is_unfinished (phase_here c ok phase_is))
 
+  module _ (log : Log) (changed : ChangedSets) (scanned : nat_lt c.checkpoint.cursor c.checkpoint.bound ≡ false)
+      (log_is : log.records ≡ c.log.records ++ Token Complete c.checkpoint.number ∷ []) (changed_is : changed ≡ record c.changed { frozen = empty_set }) where
     all_visited : (q : Bytes) → w.bound q ≡ true → w.visited q ≡ true
     all_visited q wanted =
         let (j, below, there, then) = (scan_here c ok phase_is).to_visit q wanted in
         let past = ltb-false c.checkpoint.cursor c.checkpoint.bound scanned in
         then (omega (arith, below, past))
 
-    pub complete_core : IsCore after_complete
-    complete_core =
-        token_core c ok Complete w.number log.records (number_here c ok log Complete log_is) log refl c.store changed
-        (record c.checkpoint { finished = c.checkpoint.number; captured = empty; waiting = Some i }) Unknown (complete w) (completes all_visited)
+    -- what is finished is that of the cut
+    pub finished_is : IsImageOf (view_of c) made
+    finished_is = made_is all_visited made refl
+
+    -- the core whose checkpoint is finished, with what waits
+    completed :
+        (k : Checkpoint A) → k.number ≡ c.checkpoint.number → k.finished ≡ c.checkpoint.number → k.kind ≡ c.checkpoint.kind →
+        ((i : taken.Image) → k.waiting ≡ Some i → Among (machine_image i) (complete w).images) → ((h : Header) → k.header ≡ Some h → IsHead k.given.entries (complete w).images h) →
+        IsCore (record c { log = log; changed = changed; phase = Complete; checkpoint = k; aside = Unknown })
+    completed k number finished kind waits heads =
+        token_core c ok Complete w.number log.records (number_here c ok log Complete log_is) log refl c.store changed k Unknown (complete w) (completes all_visited)
         record {
           catalog = ok.stands.catalog;
           opening = ok.stands.opening;
@@ -265,21 +281,81 @@ module _ {A : Type 0} (c : Inside A) (ok : IsCore c) (phase_is : c.phase ≡ Cap
           locks = ok.stands.locks;
           phase = refl;
           checkpoint = record {
-            number = ok.stands.checkpoint.number;
-            finished = ok.stands.checkpoint.number;
-            kind = ok.stands.checkpoint.kind;
+            number = ok.stands.checkpoint.number ∙ sym number;
+            finished = ok.stands.checkpoint.number ∙ sym finished;
+            kind = ok.stands.checkpoint.kind ∙ sym kind;
             place = λ cut. absurd (true≢false (sym cut));
             scan = tt;
-            waits = λ j is. inl (ap machine_image (sym (same_Some is) ∙ i_is) ∙ machine_is);
+            waits = waits;
+            heads = heads;
+            none_yet = λ unfinished. absurd (true≢false (sym unfinished));
           };
         }
         (λ slot key there so. tt)
 
-    pub complete_view : (v : CoreView) → view_of c ≡ v → AdvancesTo Complete v (view_of after_complete)
-    complete_view v same =
-        subst (λ (u : CoreView). AdvancesTo Complete u (view_of after_complete)) same (
-          i,
-          made_is all_visited i i_is,
-          ap (λ l. record (view_of after_complete) { log = l }) (entered_log c ok log Complete log_is)
-              ∙ ap (λ l. record (entered (view_of c) Complete) { checkpoint = record (view_of c).checkpoint { captured = l; waiting = Some i } }) empty_is,
-        )
+    -- AN IMAGE WAITS
+
+    module _ (empty : Vec (Bytes × Cell) A) (i : taken.Image) (way : c.checkpoint.way ≡ Whole) (i_is : i ≡ made) where
+      abbrev with_image : Checkpoint A
+      with_image = record c.checkpoint { finished = c.checkpoint.number; captured = empty; waiting = Some i }
+
+      abbrev after_image : Inside A
+      after_image = record c { log = log; changed = changed; phase = Complete; checkpoint = with_image; aside = Unknown }
+
+      pub image_core : IsCore after_image
+      image_core =
+          completed with_image refl refl refl (λ j is. inl (ap machine_image (sym (same_Some is) ∙ i_is) ∙ machine_is))
+          (λ h is. absurd (let no_header : None ≡ Some h = sym none_waits ∙ is in cc))
+
+      pub image_view : (v : CoreView) → view_of c ≡ v → AdvancesTo Complete v (view_of after_image)
+      image_view v same =
+          subst (λ (u : CoreView). AdvancesTo Complete u (view_of after_image)) same
+          (subst (λ way. CompletesBy way (view_of c) (view_of after_image)) (sym way) (
+            i,
+            made_is all_visited i i_is,
+            ap (λ l. record (view_of after_image) { log = l }) (entered_log c ok log Complete log_is),
+          ))
+
+    -- A HEADER WAITS
+
+    module _ (base : ℕ) (way : c.checkpoint.way ≡ Streamed) (base_is : base ≡ base_at c.checkpoint.kind c.checkpoint.number c.checkpoint.finished) (most : store.records c.store ≤ STORE_RECORDS) where
+      abbrev head : Header
+      head = record {
+        kind = c.checkpoint.kind;
+        number = c.checkpoint.number;
+        base = base;
+        place = c.checkpoint.place;
+        count = c.checkpoint.tally.count;
+        chain = c.checkpoint.tally.chain;
+      }
+
+      abbrev with_header : Checkpoint A
+      with_header = record c.checkpoint { finished = c.checkpoint.number; header = Some head }
+
+      abbrev after_header : Inside A
+      after_header = record c { log = log; changed = changed; phase = Complete; checkpoint = with_header; aside = Unknown }
+
+      makes : assembled head c.checkpoint.given.entries ≡ made
+      makes = ap (λ n. of_captured c.checkpoint.kind c.checkpoint.number n c.checkpoint.place c.checkpoint.given.entries) base_is
+
+      fits : FitsHeader head c.checkpoint.given.entries
+      fits = record {
+        count = (scan_here c ok phase_is).count way;
+        chain = (scan_here c ok phase_is).chain way;
+        once = (scan_here c ok phase_is).once;
+        lawful = subst IsLawfulImage (sym makes) (made_lawful most);
+      }
+
+      pub header_core : IsCore after_header
+      header_core =
+          completed with_header refl refl refl (λ i is. inr (ok.stands.checkpoint.waits i is))
+          (λ h is. subst (IsHead c.checkpoint.given.entries (complete w).images) (same_Some is) record { fits = fits; makes = inl (ap machine_image makes ∙ machine_is) })
+
+      pub header_view : (v : CoreView) → view_of c ≡ v → AdvancesTo Complete v (view_of after_header)
+      header_view v same =
+          subst (λ (u : CoreView). AdvancesTo Complete u (view_of after_header)) same
+          (subst (λ way. CompletesBy way (view_of c) (view_of after_header)) (sym way) (
+            head,
+            record { fits = fits; image = subst (IsImageOf (view_of c)) (sym makes) finished_is },
+            ap (λ l. record (view_of after_header) { log = l }) (entered_log c ok log Complete log_is),
+          ))

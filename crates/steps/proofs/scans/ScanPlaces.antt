@@ -19,7 +19,7 @@ use Rattle.procedure.specs.Table.{Changes, change_at, with_change}
 use Rattle.image.proofs.Joins.{same_key}
 use Rattle.image.proofs.Rising.{by_bytes, parts}
 use Rattle.image.proofs.Sorting.{map_of-push, once-push}
-use Rattle.image.specs.Headers.{EachKeyOnce as Once, map_of}
+use Rattle.image.specs.Headers.{EachKeyOnce as Once, chain_digest, map_of}
 use Rattle.image.specs.Images.{Entry}
 use Rattle.image.specs.Merges.{is_full}
 use Rattle.image.specs.declared.images.Kind.{Kind}
@@ -34,6 +34,9 @@ use Rattle.steps.specs.Versions.{given_at, given_of, kept_of, key_versions, vers
 use Rattle.steps.specs.inside.CheckpointFields.{IsScan, places, spots}
 use Rattle.steps.specs.machine.Machine.{give, keeps, to_visit}
 use Rattle.steps.specs.declared.checkpoints.Checkpoint.{Checkpoint}
+use Rattle.steps.specs.declared.checkpoints.Tally.{Tally}
+use Rattle.steps.specs.declared.checkpoints.Way.TheVariants.{Streamed, Whole}
+use Rattle.steps.specs.declared.given.Given.{Given}
 use Rattle.steps.proofs.store.RecordEdits.{found_in, none_in, versions_edited}
 use Rattle.steps.proofs.machine.OpenCalls.{same_Some}
 
@@ -241,23 +244,27 @@ given_none slots key finds = sym (ap (given_at key) (none_in slots key finds))
 
 module _ {A : Type 0} where
   pub scan_begun :
-      (k : Checkpoint A) (spot : ℕ → Option Bytes) (wanted : Bytes → Bool) (given : Changes) → k.captured.items ≡ [] → k.cursor ≡ 0 → given ≡ map_of [] →
+      (k : Checkpoint A) (spot : ℕ → Option Bytes) (wanted : Bytes → Bool) (given : Changes) → k.given.entries ≡ [] → k.captured.items ≡ [] → k.tally.count ≡ 0 → k.tally.chain ≡ chain_digest [] → k.cursor ≡ 0 → given ≡ map_of [] →
       ((q : Bytes) → wanted q ≡ true → (i : ℕ) × (i < k.bound) × (spot i ≡ Some q)) → IsScan k spot no_keys wanted given
-  scan_begun k spot wanted given none start empty all = record {
+  scan_begun k spot wanted given none_given none count chain start empty all = record {
     visited = λ q seen. absurd (true≢false (sym seen));
     to_visit = λ q is. let (i, below, at) = all q is in (i, below, at, λ before. absurd (omega (arith, start, before)));
     within = omega (arith, start);
-    captured = empty ∙ ap map_of (sym none);
-    once = ap (λ l. fin.len (map_of l)) none ∙ fin.len-empty by_bytes Cell ∙ ap length (sym none);
+    gave = empty ∙ ap map_of (sym none_given);
+    once = ap (λ l. fin.len (map_of l)) none_given ∙ fin.len-empty by_bytes Cell ∙ ap length (sym none_given);
+    captured = λ way. none ∙ sym none_given;
+    count = λ way. count ∙ ap length (sym none_given);
+    chain = λ way. chain ∙ ap chain_digest (sym none_given);
   }
 
   -- one place more
-  module _ (k : Checkpoint A) (v : Vec (Bytes × Cell) A) (spot : ℕ → Option Bytes) (seen next wanted : Bytes → Bool) (given more : Changes) (key : Option Bytes) where
+  module _ (k : Checkpoint A) (v : Vec (Bytes × Cell) A) (g : Given (Bytes × Cell)) (t : Tally) (spot : ℕ → Option Bytes) (seen next wanted : Bytes → Bool) (given more : Changes) (key : Option Bytes) where
     pub scan_on :
         IsScan k spot seen wanted given → spot k.cursor ≡ key → k.cursor < k.bound → ((q : Bytes) → next q ≡ true → (seen q ≡ true) ⊎ (key ≡ Some q)) → ((q : Bytes) → seen q ≡ true → next q ≡ true) →
-        ((q : Bytes) → key ≡ Some q → next q ≡ true) → more ≡ map_of v.items → fin.len (map_of v.items) ≡ length v.items →
-        IsScan (record k { captured = v; cursor = k.cursor + 1 }) spot next wanted more
-    scan_on scan at below grown stays here captured once = record {
+        ((q : Bytes) → key ≡ Some q → next q ≡ true) → more ≡ map_of g.entries → Once g.entries → (k.way ≡ Whole → v.items ≡ g.entries) →
+        (k.way ≡ Streamed → t.count ≡ length g.entries) → (k.way ≡ Streamed → t.chain ≡ chain_digest g.entries) →
+        IsScan (record k { captured = v; given = g; tally = t; cursor = k.cursor + 1 }) spot next wanted more
+    scan_on scan at below grown stays here gave once captured count chain = record {
       visited = λ q is. elim (grown q is) [
         | inl was ↦ let (i, before, there) = scan.visited q was in (i, omega (arith, before), there)
         | inr now ↦ (k.cursor, omega arith, at ∙ now)
@@ -272,6 +279,9 @@ module _ {A : Type 0} where
         ],
       );
       within = omega (arith, below);
-      captured = captured;
+      gave = gave;
       once = once;
+      captured = captured;
+      count = count;
+      chain = chain;
     }

@@ -1,5 +1,5 @@
 -- A scan that ends has visited each of its places.
-use Rattle.std.proofs.Common.{◌≡◌, ◌≤◌, ◌+◌, ◌||◌, not, nat_lt, ℕ, suc, arith, Bool, true, false, List, [], ◌∷◌, None, Ok, Err, is_ok, refl, sym, ap, ◌∙◌, subst, true≢false}
+use Rattle.std.proofs.Common.{◌≡◌, ◌≤◌, ◌+◌, ◌||◌, not, nat_lt, ℕ, suc, arith, Bool, true, false, List, [], ◌∷◌, inl, inr, None, Ok, Err, is_ok, refl, sym, ap, ◌∙◌, subst, true≢false}
 use Rattle.std.specs.declared.result.Result.{Result}
 use Rattle.std.specs.Option.{option_or}
 use Rattle.std.proofs.lemmas.Bool.{ltb-false}
@@ -11,7 +11,7 @@ use Rattle.steps.specs.Checkpointing.{CapturesAs}
 use Rattle.steps.specs.CoreViews.{CheckpointView, CoreView}
 use Rattle.steps.specs.Refusals.{advance_refusal, is_held, is_log_full, is_rest, is_scanning, refused_unless}
 use Rattle.steps.specs.Schedules.{AbandonsAs, AdvancesAs, BeginsAs, FinishesAs, GivesUpAs, Handles, HandlesAll, StartsAs, StepsAs, VisitsAs, replies_in}
-use Rattle.steps.specs.Visits.{ScansWhole, any_enters, enters, visits}
+use Rattle.steps.specs.Visits.{ScansInTurns, ScansWhole, SendsAs, Takes, Turn, any_enters, enters, sent_visits, visits, visits_of}
 use Rattle.steps.specs.declared.captures.Captured.{Captured}
 use Rattle.steps.specs.declared.captures.Captured.TheVariants.{Slot, Done}
 use Rattle.steps.specs.declared.errors.AdvanceError.TheVariants as advancing
@@ -152,9 +152,9 @@ scanned v e is =
     ap (λ p. is_scanning p v.checkpoint) (sym is)
     ∙ scanned_by (not (is_rest (phase_of v.log))) (not (is_held (phase_of v.log) v.calls)) (is_scanning (phase_of v.log) v.checkpoint) (not (is_log_full v)) e
 
-pub scans_whole : (A : Type 0) → ScansWhole A
-scans_whole A es hs before first last after entered handled none ended =
-    let moves = all es hs first last handled none in
+-- the scan between has visited as many places as it had
+ended_scan : (before first last after : CoreView) (n : ℕ) → AdvancesAs before first (Ok Capture) → Moves first last n → AdvancesAs last after (Ok Complete) → n ≡ first.checkpoint.bound
+ended_scan before first last after n entered moves ended =
     let zero : first.checkpoint.cursor ≡ 0 = ap (λ (v : CoreView). v.checkpoint.cursor) entered.advanced.2 in
     let begun : first.checkpoint.cursor ≤ first.checkpoint.bound = omega (arith, zero) in
     let past = ltb-false last.checkpoint.cursor last.checkpoint.bound (scanned last ended.refusal (before_complete (phase_of last.log) ended.phase)) in
@@ -162,3 +162,24 @@ scans_whole A es hs before first last after entered handled none ended =
     let cursor = moves.cursor in
     let bound = moves.bound in
     omega (arith, zero, past, within, cursor, bound)
+
+pub scans_whole : (A : Type 0) → ScansWhole A
+scans_whole A es hs before first last after entered handled none ended = ended_scan before first last after _ entered (all es hs first last handled none) ended
+
+-- CAPTURES INTO RINGS
+
+by_sending : (old new : CoreView) (r : Result Captured _) → SendsAs old new r → Moves old new (sent_visits r)
+by_sending old new (Ok Slot) h = one_place old new h.captured
+by_sending old new (Ok Done) h = nothing old new h.captured.1
+by_sending old new (Err e) h = nothing old new h.refused
+
+module _ {A : Type 0} where
+  in_turns : (ts : List (Turn A)) (old new : CoreView) → Takes ts old new → Moves old new (visits_of ts)
+  in_turns [] old new h = nothing old new (sym h)
+  in_turns (inl x ∷ ts) old new (between, h, none, more) =
+      on old between new (visits (x.1.reply ∷ [])) (visits_of ts) (visits_of (inl x ∷ ts)) refl (one x.0 old between x.1 h none) (in_turns ts between new more)
+  in_turns (inr r ∷ ts) old new (between, h, more) =
+      on old between new (sent_visits r) (visits_of ts) (visits_of (inr r ∷ ts)) refl (by_sending old between r h) (in_turns ts between new more)
+
+pub scans_in_turns : (A : Type 0) → ScansInTurns A
+scans_in_turns A ts before first last after entered taken ended = ended_scan before first last after _ entered (in_turns ts first last taken) ended

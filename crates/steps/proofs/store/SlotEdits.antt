@@ -120,8 +120,11 @@ module _ {A : Type 0} where
     visited = λ q is. let (i, below, at) = scan.visited q is in (i, below, keeps i q at);
     to_visit = λ q is. let (i, below, at, then) = scan.to_visit q is in (i, below, keeps i q at, then);
     within = scan.within;
-    captured = scan.captured;
+    gave = scan.gave;
     once = scan.once;
+    captured = scan.captured;
+    count = scan.count;
+    chain = scan.chain;
   }
   scan_kept Rest k spot next seen wanted given keeps scan = tt
   scan_kept Prepare k spot next seen wanted given keeps scan = tt
@@ -139,6 +142,8 @@ module _ {A : Type 0} where
     place = λ cutting. e ∙ tracked.place cutting;
     scan = scan_kept p k spot next seen wanted given keeps tracked.scan;
     waits = tracked.waits;
+    heads = tracked.heads;
+    none_yet = tracked.none_yet;
   }
 
   -- the same of a store whose records keep their slots, and of the same frozen keys

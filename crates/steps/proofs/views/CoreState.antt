@@ -1,13 +1,14 @@
 -- What a core's fields say, by the machine's state for which they stand.
-use Rattle.std.proofs.Common.{Bool, ◌≡◌, ℕ, ◌<◌, cond, List, [], length, map, reverse, Option, Some, None, option_map, slice_get, slice_set, slice_index_or, Vec, inl, inr, refl, sym, ap, ◌∙◌, subst, length-set, get_or-set_other}
+use Rattle.std.proofs.Common.{Bool, true, ◌≡◌, ℕ, ◌<◌, cond, List, [], length, map, reverse, Option, Some, None, option_map, slice_get, slice_set, slice_index_or, Vec, inl, inr, refl, sym, ap, ◌∙◌, subst, length-set, get_or-set_other}
 use Rattle.std.proofs.lemmas.List.{length-map, map-set, get_or-set_same}
 use Rattle.std.proofs.lemmas.Bool.{cases_eq, ne_eqb, eq-eqb}
-use Rattle.procedure.specs.Bytes.{Bytes, Cell}
+use Rattle.procedure.specs.Bytes.{Bytes}
 use Rattle.procedure.specs.Table.{Changes}
 use Rattle.image.specs.Images.{Image}
+use Rattle.image.specs.declared.headers.Header.{Header}
 use Rattle.record_store.specs.Stores.{Slots}
 use Rattle.steps.specs.Versions.{VersionsByKey, versions_in}
-use Rattle.steps.specs.inside.CheckpointFields.{ScansIn, machine_image, spots}
+use Rattle.steps.specs.inside.CheckpointFields.{IsHead, ScansIn, is_unfinished, machine_image, spots}
 use Rattle.steps.specs.inside.SetAside.{AsideIn}
 use Rattle.steps.specs.machine.ScheduleAnswers.{Among}
 use Rattle.steps.specs.declared.reclaiming.Aside.{Aside}
@@ -26,6 +27,7 @@ use Rattle.steps.specs.inside.RecordEdits.{first_noted, noted_of}
 use Rattle.steps.specs.machine.Invariant.{Invariant}
 use Rattle.steps.specs.machine.Machine.{Open, State, Runs, initial, Begins, MayBegin, more, now, begin, begun}
 use Rattle.steps.specs.declared.calls.OpenCall.{OpenCall}
+use Rattle.steps.specs.declared.checkpoints.Checkpoint.{Checkpoint}
 use Rattle.steps.specs.declared.cores.Core.TheInside.{Inside}
 use Rattle.steps.proofs.machine.CallInvariant.{initial_good}
 use Rattle.steps.proofs.log.OldestFirst.{after-reverse, phase_of-reverse, last_number-reverse}
@@ -61,12 +63,14 @@ module _ {A : Type 0} where
 
     -- another store, and what else a scan and a reclaim change, stand for another state at the same place of the log
     pub stored_core :
-        (store : Slots) (aside : Aside) (captured : Vec (Bytes × Cell) A) (cursor : ℕ) (waiting : Option Image) (vs : VersionsByKey) (given : Changes) (seen : Bytes → Bool) →
+        (store : Slots) (aside : Aside) (k : Checkpoint A) (vs : VersionsByKey) (given : Changes) (seen : Bytes → Bool) →
+        k.number ≡ c.checkpoint.number → k.finished ≡ c.checkpoint.finished → k.kind ≡ c.checkpoint.kind → k.place ≡ c.checkpoint.place →
         Runs (initial c.catalog (table_of c.opening)) (record ok.world { versions = vs; given = given; visited = seen }) → ((q : Bytes) → vs q ≡ versions_in store q) →
-        ScansIn ok.world.phase (record c.checkpoint { captured = captured; cursor = cursor; waiting = waiting }) (spots c.checkpoint.kind store c.changed.frozen) seen ok.world.bound given →
-        ((i : Image) → waiting ≡ Some i → Among (machine_image i) ok.world.images) → AsideIn aside store (either c.changed) c.locks →
-        IsCore (record c { store = store; aside = aside; checkpoint = record c.checkpoint { captured = captured; cursor = cursor; waiting = waiting } })
-    stored_core store aside captured cursor waiting vs given seen run versions scan waits reasons = record {
+        ScansIn ok.world.phase k (spots k.kind store c.changed.frozen) seen ok.world.bound given →
+        ((i : Image) → k.waiting ≡ Some i → Among (machine_image i) ok.world.images) → ((h : Header) → k.header ≡ Some h → IsHead k.given.entries ok.world.images h) →
+        (is_unfinished ok.world.phase ≡ true → k.header ≡ None) → AsideIn aside store (either c.changed) c.locks →
+        IsCore (record c { store = store; aside = aside; checkpoint = k })
+    stored_core store aside k vs given seen number finished kind place run versions scan waits heads none_yet reasons = record {
       world = record ok.world { versions = vs; given = given; visited = seen };
       run = run;
       stands = record {
@@ -80,12 +84,14 @@ module _ {A : Type 0} where
         locks = ok.stands.locks;
         phase = ok.stands.phase;
         checkpoint = record {
-          number = ok.stands.checkpoint.number;
-          finished = ok.stands.checkpoint.finished;
-          kind = ok.stands.checkpoint.kind;
-          place = ok.stands.checkpoint.place;
+          number = ok.stands.checkpoint.number ∙ sym number;
+          finished = ok.stands.checkpoint.finished ∙ sym finished;
+          kind = ok.stands.checkpoint.kind ∙ sym kind;
+          place = λ cutting. ok.stands.checkpoint.place cutting ∙ sym place;
           scan = scan;
           waits = waits;
+          heads = heads;
+          none_yet = none_yet;
         };
       };
       lawful = ok.lawful;

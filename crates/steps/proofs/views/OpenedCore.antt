@@ -190,6 +190,8 @@ module _ {A : Type 0} (c : Inside A) (lawful : catalog_fault c.catalog ≡ None)
         place = λ cutting. absurd (true≢false (sym cutting));
         scan = tt;
         waits = λ i is. absurd (let none : None ≡ Some i = sym (ap (λ (k : CheckpointView). k.waiting) checkpoint) ∙ is in cc);
+        heads = λ h is. absurd (let none : None ≡ Some h = sym (ap (λ (k : CheckpointView). k.header) checkpoint) ∙ is in cc);
+        none_yet = λ unfinished. ap (λ (k : CheckpointView). k.header) checkpoint;
       };
     };
     lawful = lawful;

@@ -1,13 +1,13 @@
 -- How a core keeps the checkpoint that runs, or the last one that ran.
-use Rattle.std.specs.Prelude.{◌≡◌, ◌≤◌, ◌<◌, ℕ, Bool, true, List, length, slice_get, Option, Some}
-use Rattle.std.specs.FinMap as fin
+use Rattle.std.specs.Prelude.{◌≡◌, ◌≤◌, ◌<◌, ℕ, Bool, true, false, List, length, slice_get, Option, Some, None}
 use Rattle.procedure.specs.Bytes.{Bytes}
 use Rattle.procedure.specs.Table.{Changes}
 use Rattle.phase.specs.declared.phases.Phase.{Phase}
 use Rattle.phase.specs.declared.phases.Phase.TheVariants.{Rest, Prepare, Resolve, Capture, Complete}
-use Rattle.image.specs.Headers.{map_of}
+use Rattle.image.specs.Headers.{EachKeyOnce, FitsHeader, assembled, chain_digest, map_of}
 use Rattle.image.specs.Images as taken
 use Rattle.image.specs.Images.{changes_of}
+use Rattle.image.specs.declared.headers.Header.{Header}
 use Rattle.image.specs.declared.images.Kind.{Kind}
 use Rattle.image.specs.declared.images.Kind.TheVariants.{Full, Partial}
 use Rattle.record_store.specs.ChangedSets.{KeySet, count, keys_of}
@@ -16,6 +16,7 @@ use Rattle.steps.specs.machine.NewestFirst.{MachineImage}
 use Rattle.steps.specs.Refusals.{is_cutting}
 use Rattle.steps.specs.machine.ScheduleAnswers.{Among}
 use Rattle.steps.specs.declared.checkpoints.Checkpoint.{Checkpoint}
+use Rattle.steps.specs.declared.checkpoints.Way.TheVariants.{Streamed, Whole}
 
 -- the key at each place that a scan visits: in the slots in turn, or of the frozen keys in their order
 abbrev pub spots : Kind → Slots → KeySet → ℕ → Option Bytes
@@ -27,19 +28,35 @@ abbrev pub places : Kind → Slots → KeySet → ℕ
 places Full slots frozen = length slots
 places Partial slots frozen = count frozen
 
+-- does a checkpoint run whose scan hasn't ended?
+abbrev pub is_unfinished : Phase → Bool
+is_unfinished Rest = false
+is_unfinished Prepare = true
+is_unfinished Resolve = true
+is_unfinished Capture = true
+is_unfinished Complete = false
+
 -- an image as the machine makes it
 abbrev pub machine_image : taken.Image → MachineImage
 machine_image i = record { kind = i.kind; number = i.number; base = i.base; place = i.place; entries = changes_of i }
 
+-- a header of what a scan gave, which makes an image of the machine's
+pub record IsHead (given : List taken.Entry) (images : List MachineImage) (h : Header) : Type 0 where
+  pub fits : FitsHeader h given
+  pub makes : Among (machine_image (assembled h given)) images
+
 module _ {A : Type 0} where
-  -- a scan between its places: what it has visited stands below its cursor, what it is to visit below its bound, and what it
-  -- has captured is what the machine was given, each key once
+  -- a scan between its places: what it has visited stands below its cursor, what it is to visit below its bound, what it
+  -- gave is what the machine was given, each key once, and all of that is captured, or sent and counted
   pub record IsScan (k : Checkpoint A) (spot : ℕ → Option Bytes) (seen wanted : Bytes → Bool) (given : Changes) : Type 0 where
     pub visited : (q : Bytes) → seen q ≡ true → (i : ℕ) × (i < k.cursor) × (spot i ≡ Some q)
     pub to_visit : (q : Bytes) → wanted q ≡ true → (i : ℕ) × (i < k.bound) × (spot i ≡ Some q) × (i < k.cursor → seen q ≡ true)
     pub within : k.cursor ≤ k.bound
-    pub captured : given ≡ map_of k.captured.items
-    pub once : fin.len (map_of k.captured.items) ≡ length k.captured.items
+    pub gave : given ≡ map_of k.given.entries
+    pub once : EachKeyOnce k.given.entries
+    pub captured : k.way ≡ Whole → k.captured.items ≡ k.given.entries
+    pub count : k.way ≡ Streamed → k.tally.count ≡ length k.given.entries
+    pub chain : k.way ≡ Streamed → k.tally.chain ≡ chain_digest k.given.entries
 
   abbrev pub ScansIn : Phase → Checkpoint A → (ℕ → Option Bytes) → (seen wanted : Bytes → Bool) → Changes → Type 0
   ScansIn Capture k spot seen wanted given = IsScan k spot seen wanted given
@@ -48,8 +65,8 @@ module _ {A : Type 0} where
   ScansIn Resolve k spot seen wanted given = Unit {0}
   ScansIn Complete k spot seen wanted given = Unit {0}
 
-  -- the checkpoint is the machine's: its number, the last finished one, its kind, the records before its cut, its scan, and its
-  -- image
+  -- the checkpoint is the machine's: its number, the last finished one, its kind, the records before its cut, its scan, its image,
+  -- and its header
   pub record IsTracked (k : Checkpoint A) (spot : ℕ → Option Bytes) (p : Phase) (n f : ℕ) (sort : Kind) (cut : ℕ) (seen wanted : Bytes → Bool) (given : Changes) (images : List MachineImage) : Type 0
     where
       pub number : n ≡ k.number
@@ -58,3 +75,5 @@ module _ {A : Type 0} where
       pub place : is_cutting p ≡ true → cut ≡ k.place
       pub scan : ScansIn p k spot seen wanted given
       pub waits : (i : taken.Image) → k.waiting ≡ Some i → Among (machine_image i) images
+      pub heads : (h : Header) → k.header ≡ Some h → IsHead k.given.entries images h
+      pub none_yet : is_unfinished p ≡ true → k.header ≡ None

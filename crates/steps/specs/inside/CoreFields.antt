@@ -52,7 +52,7 @@ module _ {A : Type 0} where
   start_of o = option_map (λ c. c.start) o
 
   abbrev pub checkpoint_of : Checkpoint A → CheckpointView
-  checkpoint_of k = record { kind = k.kind; cursor = k.cursor; bound = k.bound; captured = k.captured.items; waiting = k.waiting }
+  checkpoint_of k = record { kind = k.kind; way = k.way; scan = k.scan; cursor = k.cursor; bound = k.bound; given = k.given.entries; waiting = k.waiting; header = k.header }
 
   abbrev pub view_of : Inside A → CoreView
   view_of c =

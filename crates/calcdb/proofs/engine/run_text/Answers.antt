@@ -1,8 +1,13 @@
-use Rattle.std.proofs.lemmas.Result.{IfErr-weaker}
+use Rattle.std.proofs.lemmas.Result.{IfErr-weaker, IfOk-weaker}
 use Rattle.calcdb.specs.Outcomes.{EndsRun, StopsAs}
 use Rattle.calcdb.specs.Scripts.{script_of}
 use Rattle.calcdb.proofs.Endings.{ends_script, ends_stopped}
 use Rattle.calcdb.proofs.engine.run_text.Goals as goal
+
+pub returns-in-Ok-clause-run : goal.returns-in-Ok-clause-run
+returns-in-Ok-clause-run g c =
+    IfOk-weaker c.run_opened.result _ _
+    (λ r h. (h.1, record { lawful = c.requires; script = c.in-Ok.script; reads = c.in-Ok.ensures; first = h.0; opened = h.2; carried = h.3 }, h.4)) c.run_opened.ensures.ok
 
 pub returns-in-Ok-clause-fault : goal.returns-in-Ok-clause-fault
 returns-in-Ok-clause-fault g c =

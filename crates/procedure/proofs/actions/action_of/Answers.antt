@@ -1,10 +1,10 @@
-use Rattle.std.proofs.Common.{◌≡◌, ℕ, Bool, true, false, cond, List, Option, Some, None, refl, sym, ap, ◌∙◌, subst, option_copied}
+use Rattle.std.proofs.Common.{◌≡◌, ℕ, Bool, true, false, cond, List, Option, Some, None, refl, sym, ap, ◌∙◌, subst, option_copied, IsSome, true≢false}
 use Rattle.procedure.specs.Bytes.{Bytes, Cell}
 use Rattle.procedure.specs.Needs.{CopiesValue, read_of}
 use Rattle.procedure.specs.Procedures.{Instruction, Operand, Test, Read, Put, Insert, Delete, Add, Sub, AbortIf, operand_value, as_key, as_number, holds, need, Effect, effect, ending, passing, reading, putting, inserting, deleting, adding, subtracting}
 use Rattle.procedure.specs.Actions.{Action, effect_of}
 use Rattle.procedure.proofs.Fronts.{adding_becomes, subtracting_becomes}
-use Rattle.procedure.proofs.Results.{on_err, if_ok}
+use Rattle.procedure.proofs.Results.{if_ok, if_refused}
 use Rattle.procedure.proofs.actions.action_of.Goals as goal
 
 -- an action that stands for an effect stands for the same effect
@@ -19,22 +19,15 @@ reading_becomes : (rs : List Cell) (r : ℕ) (k : Option Bytes) (found : Cell) �
 reading_becomes rs r None found = refl
 reading_becomes rs r (Some k) found = refl
 
-copies_read : (k : Option Bytes) → CopiesValue (read_of k)
-copies_read None = tt
-copies_read (Some k) = tt
+copies_read : (k : Option Bytes) → IsSome k → CopiesValue (read_of k)
+copies_read None some = absurd (true≢false (sym some))
+copies_read (Some k) some = tt
 
 module _ (i : Instruction) (args : List Bytes) (rs : List Cell) where
-  copies-read : (r : ℕ) (k : Operand Bytes) → i ≡ Read r k → CopiesValue (need i args rs)
+  copies-read : (r : ℕ) (k : Operand Bytes) (x : Cell) (key : Option Bytes) → i ≡ Read r k → x ≡ operand_value k args rs → key ≡ as_key x → IsSome key → CopiesValue (need i args rs)
   unfolding need
-  copies-read r k is = subst (λ j. CopiesValue (need j args rs)) (sym is) (copies_read (as_key (operand_value k args rs)))
-
-  copies-add : (r : ℕ) (x y : Operand Bytes) → i ≡ Add r x y → CopiesValue (need i args rs)
-  unfolding need
-  copies-add r x y is = subst (λ j. CopiesValue (need j args rs)) (sym is) tt
-
-  copies-sub : (r : ℕ) (x y : Operand Bytes) → i ≡ Sub r x y → CopiesValue (need i args rs)
-  unfolding need
-  copies-sub r x y is = subst (λ j. CopiesValue (need j args rs)) (sym is) tt
+  copies-read r k x key is gives are some =
+      subst (λ j. CopiesValue (need j args rs)) (sym is) (copies_read (as_key (operand_value k args rs)) (subst (λ z. IsSome z) (are ∙ ap as_key gives) some))
 
 -- what each instruction does, by what its operands give
 module _ (i : Instruction) (args : List Bytes) (rs : List Cell) (found : Cell) where
@@ -87,8 +80,8 @@ returns-in-Read g c =
     let same = effect-read i args rs found r c.in-Read.key _ key c.in-Read.is c.value_of.ensures c.key_of.ensures in
     record {
       value = if_ok (λ a. (registers : List Cell) → effect_of a registers None ≡ reading registers r key found) (λ a. effect_of a rs (effect i args rs found).becomes ≡ effect i args rs found)
-          (λ a h. stands_for_own a rs _ _ (reading_becomes rs r key found) same (h rs)) c.read_action.result c.read_action.ensures;
-      memory = on_err _ (copies-read i args rs r c.in-Read.key c.in-Read.is);
+          (λ a h. stands_for_own a rs _ _ (reading_becomes rs r key found) same (h rs)) c.read_action.result c.read_action.ensures.value;
+      memory = if_refused (copies-read i args rs r c.in-Read.key _ key c.in-Read.is c.value_of.ensures c.key_of.ensures) c.read_action.result c.read_action.ensures.memory;
     }
 
 pub returns-in-Put-clause-value : goal.returns-in-Put-clause-value
@@ -123,8 +116,8 @@ returns-in-Delete-clause-value g c =
     stands_for c.delete_action.result rs (deleting rs key found) (effect i args rs found) (c.delete_action.ensures rs)
     (effect-delete i args rs found c.in-Delete.key _ key c.in-Delete.is c.value_of-in-Delete.ensures c.key_of-in-Delete.ensures)
 
-pub returns-in-Add : goal.returns-in-Add
-returns-in-Add g c =
+pub returns-in-Add-clause-value : goal.returns-in-Add-clause-value
+returns-in-Add-clause-value g c =
     let i = c.args.instruction.now in
     let args = c.args.args.now in
     let rs = c.args.registers.now in
@@ -133,14 +126,10 @@ returns-in-Add g c =
     let x = c.number_of-x.result in
     let y = c.number_of.result in
     let same = effect-add i args rs found r c.in-Add.x c.in-Add.y _ _ x y c.value_of-in-Add.ensures c.value_of-in-Add-2.ensures c.number_of-x.ensures c.number_of.ensures c.in-Add.is in
-    record {
-      value = if_ok (λ a. (registers : List Cell) → effect_of a registers None ≡ adding registers r x y) (λ a. effect_of a rs (effect i args rs found).becomes ≡ effect i args rs found)
-          (λ a h. stands_for_own a rs _ _ (adding_becomes rs r x y) same (h rs)) c.add_action.result c.add_action.ensures;
-      memory = on_err _ (copies-add i args rs r c.in-Add.x c.in-Add.y c.in-Add.is);
-    }
+    stands_for_own c.add_action.result rs (adding rs r x y) (effect i args rs found) (adding_becomes rs r x y) same (c.add_action.ensures rs)
 
-pub returns-in-Sub : goal.returns-in-Sub
-returns-in-Sub g c =
+pub returns-in-Sub-clause-value : goal.returns-in-Sub-clause-value
+returns-in-Sub-clause-value g c =
     let i = c.args.instruction.now in
     let args = c.args.args.now in
     let rs = c.args.registers.now in
@@ -149,11 +138,7 @@ returns-in-Sub g c =
     let x = c.number_of-x-in-Sub.result in
     let y = c.number_of-in-Sub.result in
     let same = effect-sub i args rs found r c.in-Sub.x c.in-Sub.y _ _ x y c.value_of-in-Sub.ensures c.value_of-in-Sub-2.ensures c.number_of-x-in-Sub.ensures c.number_of-in-Sub.ensures c.in-Sub.is in
-    record {
-      value = if_ok (λ a. (registers : List Cell) → effect_of a registers None ≡ subtracting registers r x y) (λ a. effect_of a rs (effect i args rs found).becomes ≡ effect i args rs found)
-          (λ a h. stands_for_own a rs _ _ (subtracting_becomes rs r x y) same (h rs)) c.sub_action.result c.sub_action.ensures;
-      memory = on_err _ (copies-sub i args rs r c.in-Sub.x c.in-Sub.y c.in-Sub.is);
-    }
+    stands_for_own c.sub_action.result rs (subtracting rs r x y) (effect i args rs found) (subtracting_becomes rs r x y) same (c.sub_action.ensures rs)
 
 pub returns-after-test_holds-clause-value : goal.returns-after-test_holds-clause-value
 returns-after-test_holds-clause-value g c =

@@ -8,6 +8,7 @@ pub returns : goal.returns
 returns g c =
     let started : List Instruction → List Cell → List Cell → Execution =
     λ code registers replies. record { args = c.args.args; progress = record (at_start code) { registers = registers; replies = replies } } in
-    ap (λ r. started c.code.inside.code r c.in_ok-replies.replies.items) c.in_ok-registers.ensures
-    ∙ ap (started c.code.inside.code (at_start []).registers) c.in_ok-replies.ensures.items
-    ∙ ap (λ (p : Procedure). started p.code (at_start []).registers []) (c.code.view_is ∙ c.in_ok-code.ensures.cases)
+    ap (λ r. started c.in_ok-code.code r c.in_ok-replies.replies.items) c.in_ok-registers.ensures
+    ∙ ap (started c.in_ok-code.code (at_start []).registers) c.in_ok-replies.ensures.items
+    ∙ ap (λ code. started code (at_start []).registers []) c.in_ok-code.ensures.cases
+    ∙ ap (λ (p : Procedure). started p.code (at_start []).registers []) c.procedure.view_is

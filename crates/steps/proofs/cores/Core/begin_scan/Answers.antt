@@ -10,10 +10,10 @@ invariant_of-self g c = same_core c.self.inside c.self.invariant c.push_token.ne
 pub invariant_of-self-2 : goal.invariant_of-self-2
 invariant_of-self-2 g c =
     let free = advances_from c.self.inside c.self.invariant c.args.self.now c.self.view_is Resolve c.requires.phase c.requires.free in
-    begin_core c.self.inside c.self.invariant c.push_token.new.log c.places-bound.result c.clear.new.self free.is free.held c.in_ok-push_token.ensures.ok c.places-bound.ensures c.clear.ensures.items
+    begin_core c.self.inside c.self.invariant c.push_token.new.log c.places-bound.result c.clear.new.self c.nothing-self-inside.result c.none-self-inside.result free.is free.held c.in_ok-push_token.ensures.ok c.places-bound.ensures c.clear.ensures.items c.nothing-self-inside.ensures c.none-self-inside.ensures.count c.none-self-inside.ensures.chain
 
 pub returns-clause-ok : goal.returns-clause-ok
 returns-clause-ok g c =
     let free = advances_from c.self.inside c.self.invariant c.args.self.now c.self.view_is Resolve c.requires.phase c.requires.free in
-    begin_view c.self.inside c.self.invariant c.push_token.new.log c.places-bound.result c.clear.new.self free.is free.held c.in_ok-push_token.ensures.ok c.places-bound.ensures c.clear.ensures.items
+    begin_view c.self.inside c.self.invariant c.push_token.new.log c.places-bound.result c.clear.new.self c.nothing-self-inside.result c.none-self-inside.result free.is free.held c.in_ok-push_token.ensures.ok c.places-bound.ensures c.clear.ensures.items c.nothing-self-inside.ensures c.none-self-inside.ensures.count c.none-self-inside.ensures.chain
     c.args.self.now c.self.view_is

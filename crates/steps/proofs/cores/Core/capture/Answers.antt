@@ -1,8 +1,6 @@
-use Rattle.std.proofs.Common.{inl, inr, refl, ap, ◌∙◌}
-use Rattle.steps.specs.Refusals.{is_capture, refused_unless}
-use Rattle.steps.specs.declared.errors.CaptureError.TheVariants as capturing
+use Rattle.std.proofs.Common.{inl, inr, refl}
 use Rattle.steps.proofs.scans.CapturingCore.{visit_by, capture_core, capture_view, roomy_scan}
-use Rattle.steps.proofs.phases.CheckpointRefusals.{capture_refused, not_capture}
+use Rattle.steps.proofs.phases.CheckpointRefusals.{capture_elsewhere, capture_free, capture_streamed}
 use Rattle.steps.proofs.cores.Core.capture.Goals as goal
 
 pub returns-in_default : goal.returns-in_default
@@ -11,43 +9,49 @@ returns-in_default g c = record {
   refused = refl;
   refusal =
       inl
-      (capture_refused c.self.inside c.self.invariant c.args.self.now c.self.view_is
-      ∙ ap (λ b. refused_unless b capturing.NotCapturing) (not_capture c.self.inside.phase c.in_default.not-Capture));
+      (capture_elsewhere c.self.inside c.self.invariant c.args.self.now c.self.view_is c.in_default.not-Capture);
+}
+
+pub returns-in-Streamed : goal.returns-in-Streamed
+returns-in-Streamed g c = record {
+  captured = tt;
+  refused = refl;
+  refusal = inl (capture_streamed c.self.inside c.self.invariant c.args.self.now c.self.view_is c.in-Capture.is c.in-Streamed.is);
 }
 
 pub returns-then-self-clause-refusal : goal.returns-then-self-clause-refusal
 returns-then-self-clause-refusal g c =
-    capture_refused c.self.inside c.self.invariant c.args.self.now c.self.view_is ∙ ap (λ p. refused_unless (is_capture p) capturing.NotCapturing) c.in-Capture.is
+    capture_free c.self.inside c.self.invariant c.args.self.now c.self.view_is c.in-Capture.is c.in-Whole.is
 
 pub invariant_of-self : goal.invariant_of-self
 invariant_of-self g c = roomy_scan c.self.inside c.self.invariant c.reserve.new.self c.reserve.ensures.items c.self.inside.store refl
 
 pub returns-then-is_err-clause-refusal : goal.returns-then-is_err-clause-refusal
 returns-then-is_err-clause-refusal g c =
-    inr (capture_refused c.self.inside c.self.invariant c.args.self.now c.self.view_is ∙ ap (λ p. refused_unless (is_capture p) capturing.NotCapturing) c.in-Capture.is, refl)
+    inr (capture_free c.self.inside c.self.invariant c.args.self.now c.self.view_is c.in-Capture.is c.in-Whole.is, refl)
 
 pub invariant_of-self-in-Err : goal.invariant_of-self-in-Err
 invariant_of-self-in-Err g c = roomy_scan c.self.inside c.self.invariant c.reserve.new.self c.reserve.ensures.items c.visit.new.store c.in-Err.ensures.err
 
 pub returns-in-Err-clause-refusal : goal.returns-in-Err-clause-refusal
 returns-in-Err-clause-refusal g c =
-    inr (capture_refused c.self.inside c.self.invariant c.args.self.now c.self.view_is ∙ ap (λ p. refused_unless (is_capture p) capturing.NotCapturing) c.in-Capture.is, refl)
+    inr (capture_free c.self.inside c.self.invariant c.args.self.now c.self.view_is c.in-Capture.is c.in-Whole.is, refl)
 
 pub invariant_of-self-2 : goal.invariant_of-self-2
 invariant_of-self-2 g c =
-    capture_core c.self.inside c.self.invariant c.visit.new.store c.keep.new.captured c.key_at_place-key.result
-    (visit_by c.self.inside c.self.invariant c.visit.new.store c.keep.new.captured c.key_at_place-key.result c.reserve.new.self.items c.in-Ok.given c.in-Capture.is c.if-self.false
+    capture_core c.self.inside c.self.invariant c.visit.new.store c.keep.new.captured c.keep.new.given c.self.inside.checkpoint.tally c.key_at_place-key.result
+    (visit_by c.self.inside c.self.invariant c.visit.new.store c.keep.new.captured c.keep.new.given c.self.inside.checkpoint.tally c.key_at_place-key.result c.reserve.new.self.items c.in-Ok.held c.in-Whole.is c.in-Capture.is c.if-self.false
     c.key_at_place-key.ensures
-    c.in-Ok.ensures.once c.in-Ok.ensures.keys c.in-Ok.ensures.aside c.in-Ok.ensures.versions c.keep.ensures c.reserve.ensures.items c.in-Ok.ensures.given)
+    c.in-Ok.ensures.once c.in-Ok.ensures.keys c.in-Ok.ensures.aside c.in-Ok.ensures.versions c.keep.ensures.captured c.keep.ensures.given c.reserve.ensures.items c.in-Ok.ensures.given)
 
 pub returns-clause-captured : goal.returns-clause-captured
 returns-clause-captured g c =
-    capture_view c.self.inside c.self.invariant c.visit.new.store c.keep.new.captured c.key_at_place-key.result
-    (visit_by c.self.inside c.self.invariant c.visit.new.store c.keep.new.captured c.key_at_place-key.result c.reserve.new.self.items c.in-Ok.given c.in-Capture.is c.if-self.false
+    capture_view c.self.inside c.self.invariant c.visit.new.store c.keep.new.captured c.keep.new.given c.self.inside.checkpoint.tally c.key_at_place-key.result
+    (visit_by c.self.inside c.self.invariant c.visit.new.store c.keep.new.captured c.keep.new.given c.self.inside.checkpoint.tally c.key_at_place-key.result c.reserve.new.self.items c.in-Ok.held c.in-Whole.is c.in-Capture.is c.if-self.false
     c.key_at_place-key.ensures
-    c.in-Ok.ensures.once c.in-Ok.ensures.keys c.in-Ok.ensures.aside c.in-Ok.ensures.versions c.keep.ensures c.reserve.ensures.items c.in-Ok.ensures.given)
+    c.in-Ok.ensures.once c.in-Ok.ensures.keys c.in-Ok.ensures.aside c.in-Ok.ensures.versions c.keep.ensures.captured c.keep.ensures.given c.reserve.ensures.items c.in-Ok.ensures.given)
     c.args.self.now c.self.view_is
 
 pub returns-clause-refusal : goal.returns-clause-refusal
 returns-clause-refusal g c =
-    capture_refused c.self.inside c.self.invariant c.args.self.now c.self.view_is ∙ ap (λ p. refused_unless (is_capture p) capturing.NotCapturing) c.in-Capture.is
+    capture_free c.self.inside c.self.invariant c.args.self.now c.self.view_is c.in-Capture.is c.in-Whole.is

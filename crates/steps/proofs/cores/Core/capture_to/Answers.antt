@@ -1,0 +1,57 @@
+use Rattle.std.proofs.Common.{◌≤◌, inl, inr, [], append-nil, refl, sym, subst, ℕ}
+use Rattle.image.specs.declared.limits.TheConstants.{ENTRIES}
+use Rattle.pipe.specs.Rings as ring
+use Rattle.steps.proofs.scans.CapturingCore.{capture_core, capture_view, refused_to, scan_here, unsent_core, visit_to}
+use Rattle.steps.proofs.scans.CompletedImage.{few_given}
+use Rattle.steps.proofs.phases.CheckpointRefusals.{capture_to_elsewhere, capture_to_free, capture_to_whole}
+use Rattle.steps.proofs.cores.Core.capture_to.Goals as goal
+
+pub returns-in_default : goal.returns-in_default
+returns-in_default g c = record {
+  captured = tt;
+  ring = ((refl, refl, refl, refl), refl);
+  sent = ([], sym (append-nil c.args.self.now.checkpoint.given), sym (append-nil (ring.sent c.args.tap.now)));
+  room = tt;
+  refused = refl;
+  refusal = inl (capture_to_elsewhere c.self.inside c.self.invariant c.args.self.now c.self.view_is c.in_default.not-Capture);
+}
+
+pub returns-in-Whole-clause-refusal : goal.returns-in-Whole-clause-refusal
+returns-in-Whole-clause-refusal g c = inl (capture_to_whole c.self.inside c.self.invariant c.args.self.now c.self.view_is c.in-Capture.is c.in-Whole.is)
+
+pub returns-then-self-clause-refusal : goal.returns-then-self-clause-refusal
+returns-then-self-clause-refusal g c = capture_to_free c.self.inside c.self.invariant c.args.self.now c.self.view_is c.in-Capture.is c.in-Streamed.is
+
+pub send_key-requires : goal.send_key-requires
+send_key-requires g c = record {
+  few =
+      subst (λ (n : ℕ). n ≤ ENTRIES) (sym ((scan_here c.self.inside c.self.invariant c.in-Capture.is).count c.in-Streamed.is))
+      (few_given c.self.inside c.self.invariant c.in-Capture.is c.len-records.ensures.most);
+}
+
+pub invariant_of-self : goal.invariant_of-self
+invariant_of-self g c =
+    unsent_core c.self.inside c.self.invariant c.send_key.new.store c.send_key.new.given c.send_key.new.tally c.in-Err.ensures.err c.in-Err.ensures.refused.gave c.in-Err.ensures.refused.counted
+
+pub returns-in-Err-clause-refusal : goal.returns-in-Err-clause-refusal
+returns-in-Err-clause-refusal g c =
+    inr (
+      capture_to_free c.self.inside c.self.invariant c.args.self.now c.self.view_is c.in-Capture.is c.in-Streamed.is,
+      refused_to c.self.inside c.self.invariant c.in-Capture.is c.key_at_place-key.result c.key_at_place-key.ensures c.args.tap.now c.in-Err.refused c.in-Err.ensures.why c.args.self.now c.self.view_is,
+    )
+
+pub invariant_of-self-2 : goal.invariant_of-self-2
+invariant_of-self-2 g c =
+    capture_core c.self.inside c.self.invariant c.send_key.new.store c.self.inside.checkpoint.captured c.send_key.new.given c.send_key.new.tally c.key_at_place-key.result
+    (visit_to c.self.inside c.self.invariant c.send_key.new.store c.self.inside.checkpoint.captured c.send_key.new.given c.send_key.new.tally c.key_at_place-key.result c.in-Streamed.is c.in-Capture.is
+    c.if-self.false c.key_at_place-key.ensures c.in-Ok.ensures.once c.in-Ok.ensures.keys c.in-Ok.ensures.aside c.in-Ok.ensures.versions c.in-Ok.ensures.sent)
+
+pub returns-clause-captured : goal.returns-clause-captured
+returns-clause-captured g c =
+    capture_view c.self.inside c.self.invariant c.send_key.new.store c.self.inside.checkpoint.captured c.send_key.new.given c.send_key.new.tally c.key_at_place-key.result
+    (visit_to c.self.inside c.self.invariant c.send_key.new.store c.self.inside.checkpoint.captured c.send_key.new.given c.send_key.new.tally c.key_at_place-key.result c.in-Streamed.is c.in-Capture.is
+    c.if-self.false c.key_at_place-key.ensures c.in-Ok.ensures.once c.in-Ok.ensures.keys c.in-Ok.ensures.aside c.in-Ok.ensures.versions c.in-Ok.ensures.sent)
+    c.args.self.now c.self.view_is
+
+pub returns-clause-refusal : goal.returns-clause-refusal
+returns-clause-refusal g c = capture_to_free c.self.inside c.self.invariant c.args.self.now c.self.view_is c.in-Capture.is c.in-Streamed.is

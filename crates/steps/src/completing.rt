@@ -1,0 +1,127 @@
+//! How the image of a checkpoint, or the header of a streamed one, is finished.
+
+ghost use Rattle.std.specs.Prelude.{◌≡◌, None, OnErr, OnOk};
+ghost use Rattle.phase.specs.declared.phases.Phase.TheVariants.{Capture, Complete};
+ghost use Rattle.commitlog.specs.Histories.{phase_of};
+ghost use Rattle.image.specs.Headers.{EachKeyOnce, of_captured};
+ghost use Rattle.image.specs.Images.{IsLawfulImage};
+ghost use Rattle.steps.specs.Checkpointing.{AdvancesTo};
+ghost use Rattle.steps.specs.Refusals.{advance_refusal};
+ghost use Rattle.steps.specs.machine.Machine.{base_at};
+ghost use Rattle.steps.specs.declared.checkpoints.Way.TheVariants.{Streamed, Whole};
+
+use crate::checkpointing::push_token;
+use crate::checkpoints::Way;
+use crate::cores::Core;
+use crate::reclaiming::Aside;
+use image::{Entry, Header, Image, Kind};
+use phase::Phase;
+use procedure::NoMemory;
+use std::alloc::Allocator;
+use std::mem;
+
+/// The number of the image on which that of a checkpoint stands: its own, or that of the last finished
+/// one.
+fn base_of(kind: Kind, number: u64, finished: u64) -> u64
+    ensures { result ≡ base_at kind number finished }
+{
+    match kind {
+        Kind::Full => number,
+        Kind::Partial => finished,
+    }
+}
+
+/// The image of what was captured, each key once.
+fn image_of<A: Allocator>(
+    kind: Kind,
+    number: u64,
+    finished: u64,
+    place: u64,
+    entries: Vec<Entry<A>, A>,
+) -> Image<A>
+    requires once { EachKeyOnce entries.items }
+    requires lawful { IsLawfulImage (of_captured kind number (base_at kind number finished) place entries.items) }
+    ensures { result ≡ of_captured kind number (base_at kind number finished) place entries.items }
+{
+    let base = base_of(kind, number, finished);
+    match Image::captured(kind, number, base, place, entries) {
+        Some(image) => image,
+        None => unreachable!(),
+    }
+}
+
+impl<A: Allocator + Clone> Core<A> {
+    /// The image is finished, and waits to be taken.
+    fn complete_image(&mut self) -> Result<(), NoMemory>
+        requires phase { phase_of self.old.log ≡ Capture }
+        requires free { advance_refusal self.old ≡ None }
+        requires way { self.old.checkpoint.way ≡ Whole }
+        ensures ok { OnOk result (AdvancesTo Complete self.old self.new) }
+        ensures err { OnErr result (self.new ≡ self.old) }
+    {
+        // Brings in that the store has at most 100,000 records, and so the image as many entries.
+        let _records = self.store.len();
+        let empty = Vec::new(self.alloc.clone()?);
+        push_token(&mut self.log, Phase::Complete, self.checkpoint.number)?;
+        let entries = mem::replace(&mut self.checkpoint.captured, empty);
+        let image = image_of(
+            self.checkpoint.kind,
+            self.checkpoint.number,
+            self.checkpoint.finished,
+            self.checkpoint.place,
+            entries,
+        );
+        self.changed.clear_frozen();
+        // Records that were set aside since their keys were collected may go now.
+        self.aside = Aside::Unknown;
+        self.checkpoint.finished = self.checkpoint.number;
+        self.checkpoint.waiting = Some(image);
+        self.phase = Phase::Complete;
+        Ok(())
+    }
+
+    /// The header is finished, and waits to be taken.
+    fn complete_header(&mut self) -> Result<(), NoMemory>
+        requires phase { phase_of self.old.log ≡ Capture }
+        requires free { advance_refusal self.old ≡ None }
+        requires way { self.old.checkpoint.way ≡ Streamed }
+        ensures ok { OnOk result (AdvancesTo Complete self.old self.new) }
+        ensures err { OnErr result (self.new ≡ self.old) }
+    {
+        // Brings in that the store has at most 100,000 records, and so the image as many entries.
+        let _records = self.store.len();
+        push_token(&mut self.log, Phase::Complete, self.checkpoint.number)?;
+        let header = Header {
+            kind: self.checkpoint.kind,
+            number: self.checkpoint.number,
+            base: base_of(
+                self.checkpoint.kind,
+                self.checkpoint.number,
+                self.checkpoint.finished,
+            ),
+            place: self.checkpoint.place,
+            count: self.checkpoint.tally.count,
+            chain: self.checkpoint.tally.chain,
+        };
+        self.changed.clear_frozen();
+        // Records that were set aside since their keys were collected may go now.
+        self.aside = Aside::Unknown;
+        self.checkpoint.finished = self.checkpoint.number;
+        self.checkpoint.header = Some(header);
+        self.phase = Phase::Complete;
+        Ok(())
+    }
+
+    /// From capture into complete: the image is finished, or the header, and waits to be taken.
+    pub(crate) fn complete(&mut self) -> Result<(), NoMemory>
+        requires phase { phase_of self.old.log ≡ Capture }
+        requires free { advance_refusal self.old ≡ None }
+        ensures ok { OnOk result (AdvancesTo Complete self.old self.new) }
+        ensures err { OnErr result (self.new ≡ self.old) }
+    {
+        match self.checkpoint.way {
+            Way::Whole => self.complete_image(),
+            Way::Streamed => self.complete_header(),
+        }
+    }
+}

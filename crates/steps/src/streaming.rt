@@ -1,0 +1,213 @@
+//! How the scan of a streamed checkpoint sends its entries.
+
+ghost use Rattle.std.specs.Prelude.{◌≡◌, ◌≤◌, ◌+◌, ℕ, IfErr, IsSome, OnErr, OnOk, Some, IfOk, true};
+ghost use Rattle.procedure.specs.Bytes.{Bytes};
+ghost use Rattle.image.specs.declared.limits.TheConstants.{ENTRIES};
+ghost use Rattle.pipe.specs.Rings.{SameTap, room};
+ghost use Rattle.record_store.specs.Stores.{changed, key_at, record_at};
+ghost use Rattle.record_store.specs.Stores as recorded;
+ghost use Rattle.steps.specs.inside.SetAside.{aside_at};
+ghost use Rattle.steps.specs.inside.RecordEdits.{available_at, captured, edited, given_by};
+ghost use Rattle.steps.specs.inside.Sends.{IsRefused, IsSent, SendsNothing};
+ghost use Rattle.steps.specs.Checkpointing.{CapturesAs, visited};
+ghost use Rattle.steps.specs.Streaming.{AnswersTo, GivesOne, MayBeFull, SendsGiven};
+ghost use Rattle.steps.specs.Versions.{given_of, kept_of, versions_in};
+
+use crate::captures::{Captured, is_kept, key_at_place};
+use crate::checkpoints::{Tally, Way};
+use crate::cores::Core;
+use crate::edits::copy_of;
+use crate::errors::CaptureToError;
+use crate::given::Given;
+use image::{Entry, Kind};
+use phase::Phase;
+use pipe::{Full, Tap};
+use procedure::Key;
+use record_store::{Record, Stable, Store};
+use std::alloc::Allocator;
+
+/// Sends what a record held, if the image has it, and counts it.
+fn send_kept<A: Allocator>(
+    tap: &mut Tap<A>,
+    given: &mut Given<Entry<A>>,
+    tally: &mut Tally,
+    kind: Kind,
+    entry: Entry<A>,
+) -> Result<(), Full<A>>
+    requires few { tally.old.count ≤ ENTRIES }
+    ensures ring { SameTap tap.old tap.new }
+    ensures sent { OnOk result (IsSent (kept_of kind (Some entry)) tap.old tap.new given.old given.new tally.old tally.new) }
+    ensures room { OnOk result (room tap.old ≤ room tap.new + 1) }
+    ensures full { IfErr result (λ full. full.0 ≡ entry) }
+    ensures refused { OnErr result (SendsNothing tap.old tap.new given.old given.new tally.old tally.new) }
+    ensures kept { OnErr result (GivesOne kind (Some entry)) }
+    ensures why { OnErr result (MayBeFull tap.old) }
+{
+    if !is_kept(kind, &entry) {
+        return Ok(());
+    }
+    let more = given.and(&entry);
+    let next = tally.and(&entry);
+    tap.send(entry)?;
+    *given = more;
+    *tally = next;
+    Ok(())
+}
+
+/// Sends the stable version of a record that is available, by move. Where the ring is full it is put
+/// back.
+fn send_stable<A: Allocator>(
+    store: &mut Store<A>,
+    slot: usize,
+    key: Key,
+    tap: &mut Tap<A>,
+    given: &mut Given<Entry<A>>,
+    tally: &mut Tally,
+    kind: Kind,
+) -> Result<(), CaptureToError>
+    requires few { tally.old.count ≤ ENTRIES }
+    requires key { key_at store.old slot ≡ Some key }
+    requires available { available_at store.old slot ≡ true }
+    ensures ok { OnOk result (store.new ≡ changed (edited captured) store.old slot) }
+    ensures err { OnErr result (store.new ≡ store.old) }
+    ensures ring { SameTap tap.old tap.new }
+    ensures sent { OnOk result (IsSent (kept_of kind (given_by (record_at store.old slot))) tap.old tap.new given.old given.new tally.old tally.new) }
+    ensures room { OnOk result (room tap.old ≤ room tap.new + 1) }
+    ensures refused { OnErr result (SendsNothing tap.old tap.new given.old given.new tally.old tally.new) }
+    ensures why { IfErr result (IsRefused kind (given_by (record_at store.old slot)) tap.old) }
+{
+    match store.take_stable(slot) {
+        Stable::Empty => Ok(()),
+        Stable::Was(cell) => match send_kept(tap, given, tally, kind, Entry { key, cell }) {
+            Ok(()) => Ok(()),
+            Err(Full(entry)) => {
+                store.put_stable(slot, entry.cell);
+                Err(CaptureToError::RingFull)
+            }
+        },
+    }
+}
+
+/// Visits the record in a slot, and sends what it held at the cut: its stable version where it is
+/// available, and else a copy of the live one. All memory is taken first.
+fn send_slot<A: Allocator + Clone>(
+    store: &mut Store<A>,
+    slot: usize,
+    tap: &mut Tap<A>,
+    given: &mut Given<Entry<A>>,
+    tally: &mut Tally,
+    kind: Kind,
+) -> Result<(), CaptureToError>
+    requires few { tally.old.count ≤ ENTRIES }
+    ensures ok { OnOk result (store.new ≡ changed (edited captured) store.old slot) }
+    ensures err { OnErr result (store.new ≡ store.old) }
+    ensures ring { SameTap tap.old tap.new }
+    ensures sent { OnOk result (IsSent (kept_of kind (given_by (record_at store.old slot))) tap.old tap.new given.old given.new tally.old tally.new) }
+    ensures room { OnOk result (room tap.old ≤ room tap.new + 1) }
+    ensures refused { OnErr result (SendsNothing tap.old tap.new given.old given.new tally.old tally.new) }
+    ensures why { IfErr result (IsRefused kind (given_by (record_at store.old slot)) tap.old) }
+{
+    match store.slot(slot) {
+        None => Ok(()),
+        Some(
+            Record {
+                key,
+                available: true,
+                ..
+            },
+        ) => send_stable(store, slot, key, tap, given, tally, kind),
+        Some(Record { key, live, .. }) => {
+            let cell = match copy_of(live) {
+                Ok(cell) => cell,
+                Err(_) => return Err(CaptureToError::NoMemory),
+            };
+            match send_kept(tap, given, tally, kind, Entry { key, cell }) {
+                Ok(()) => {}
+                Err(Full(_)) => return Err(CaptureToError::RingFull),
+            }
+            store.set_available(slot, true);
+            Ok(())
+        }
+    }
+}
+
+/// Visits the record of a key, where it has one, and sends what it held at the cut.
+fn send_key<A: Allocator + Clone>(
+    store: &mut Store<A>,
+    key: Option<Key>,
+    tap: &mut Tap<A>,
+    given: &mut Given<Entry<A>>,
+    tally: &mut Tally,
+    kind: Kind,
+) -> Result<(), CaptureToError>
+    requires few { tally.old.count ≤ ENTRIES }
+    ensures once { IsSome key → recorded.HasKeysOnce store.old }
+    ensures keys { OnOk result ((slot : ℕ) → key_at store.new slot ≡ key_at store.old slot) }
+    ensures aside { OnOk result ((slot : ℕ) → aside_at store.new slot ≡ aside_at store.old slot) }
+    ensures versions { OnOk result ((q : Bytes) → versions_in store.new q ≡ visited key q (versions_in store.old q)) }
+    ensures err { OnErr result (store.new ≡ store.old) }
+    ensures ring { SameTap tap.old tap.new }
+    ensures sent { OnOk result (IsSent (kept_of kind (given_of (versions_in store.old) key)) tap.old tap.new given.old given.new tally.old tally.new) }
+    ensures room { OnOk result (room tap.old ≤ room tap.new + 1) }
+    ensures refused { OnErr result (SendsNothing tap.old tap.new given.old given.new tally.old tally.new) }
+    ensures why { IfErr result (IsRefused kind (given_of (versions_in store.old) key) tap.old) }
+{
+    match key {
+        Some(key) => match store.find(&key) {
+            Some(slot) => send_slot(store, slot, tap, given, tally, kind),
+            None => Ok(()),
+        },
+        None => Ok(()),
+    }
+}
+
+impl<A: Allocator + Clone> Core<A> {
+    /// The scan of a streamed checkpoint visits one place, as `capture` does, and sends what the image has
+    /// of the key there. Where no place is left nothing changes. A place that gives nothing needs no room
+    /// in the ring.
+    ///
+    /// It is refused in another phase than capture (`NotCapturing`), in a checkpoint that isn't streamed
+    /// (`WrongWay`), where the ring has no room for the entry or its tap has sent 100,000 (`RingFull`), and
+    /// for memory (`NoMemory`). A refusal changes nothing, and sends nothing.
+    pub fn capture_to(&mut self, tap: &mut Tap<A>) -> Result<Captured, CaptureToError>
+        ensures captured { IfOk result (λ x. CapturesAs x self.old self.new) }
+        ensures ring { SameTap tap.old tap.new }
+        ensures sent { SendsGiven self.old self.new tap.old tap.new }
+        ensures room { OnOk result (room tap.old ≤ room tap.new + 1) }
+        ensures refused { OnErr result (self.new ≡ self.old) }
+        ensures refusal { AnswersTo self.old tap.old result }
+    {
+        match self.phase {
+            Phase::Capture => {}
+            _ => return Err(CaptureToError::NotCapturing),
+        }
+        match self.checkpoint.way {
+            Way::Streamed => {}
+            Way::Whole => return Err(CaptureToError::WrongWay),
+        }
+        if self.checkpoint.cursor == self.checkpoint.bound {
+            return Ok(Captured::Done);
+        }
+        // Brings in that the store has at most 100,000 records, and so that as many entries are sent.
+        let _records = self.store.len();
+        let key = key_at_place(
+            self.checkpoint.kind,
+            &self.store,
+            &self.changed,
+            self.checkpoint.cursor,
+        );
+        match send_key(
+            &mut self.store,
+            key,
+            tap,
+            &mut self.checkpoint.given,
+            &mut self.checkpoint.tally,
+            self.checkpoint.kind,
+        ) {
+            Ok(()) => {}
+            Err(refused) => return Err(refused),
+        }
+        self.checkpoint.cursor += 1;
+        Ok(Captured::Slot)
+    }
+}

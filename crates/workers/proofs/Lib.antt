@@ -1,0 +1,4 @@
+pub mod CoreGrowth
+pub mod Faults
+pub mod Growth
+mod StreamedImage

@@ -1,0 +1,30 @@
+use Rattle.std.proofs.Common.{ap, ◌∙◌, subst, add-zero}
+use Rattle.steps.specs.Schedules.{StartsAs}
+use Rattle.workers.specs.Checkpointed.{Checkpointed, call_count}
+use Rattle.workers.proofs.CoreGrowth.{starts}
+use Rattle.workers.proofs.Growth.{count_grows, cuts_grow}
+use Rattle.workers.proofs.checkpointed.Checkpointed.start.Goals as goal
+
+pub invariant_of-self : goal.invariant_of-self
+invariant_of-self g c =
+    let e = c.start.ensures in
+    let old = c.self.inside.core in
+    let new = c.start.new.self in
+    let h : StartsAs old new c.args.kind c.start.result = record { started = e.started; number = e.number; refused = e.refused; refusal = e.refusal } in
+    cuts_grow c.images_stay_law.ensures old new 0 c.self.inside.images.items (starts old new c.args.kind c.start.result h) c.records-records.ensures.cyclic c.self.invariant
+
+pub returns-clause-core : goal.returns-clause-core
+returns-clause-core g c =
+    let e = c.start.ensures in
+    let old = c.self.inside.core in
+    let new = c.start.new.self in
+    let h : StartsAs old new c.args.kind c.start.result = record { started = e.started; number = e.number; refused = e.refused; refusal = e.refusal } in
+    subst (λ (v : Checkpointed). StartsAs v.core new c.args.kind c.start.result) c.self.view_is h
+
+pub returns-clause-calls : goal.returns-clause-calls
+returns-clause-calls g c =
+    let e = c.start.ensures in
+    let old = c.self.inside.core in
+    let new = c.start.new.self in
+    let h : StartsAs old new c.args.kind c.start.result = record { started = e.started; number = e.number; refused = e.refused; refusal = e.refusal } in
+    count_grows old new 0 (starts old new c.args.kind c.start.result h) ∙ (add-zero (call_count old.log) ∙ ap (λ (v : Checkpointed). call_count v.core.log) c.self.view_is)

@@ -1,0 +1,31 @@
+use Rattle.std.proofs.Common.{◌≡◌, ℕ, ◌+◌, ◌<◌, ◌≤◌, List, [], ◌∷◌, ◌++◌, length, take, get_or, ap, sym, subst, ◌∙◌, arith}
+use Rattle.std.proofs.lemmas.List.{take_all, take_more, length-take-le}
+use Rattle.workers.proofs.copies.copy_of_entries.Goals as goal
+
+pub returns : goal.returns
+returns g c = c.loop-entry.invariant.copied ∙ take_all _ c.args.entries.now c.loop-entry-test.false
+
+pub loop-entry-init : goal.loop-entry-init
+loop-entry-init g c = record { copied = c.in_ok-copy.ensures.items; room = c.in_ok-copy.ensures.capacity }
+
+room_left : {X : Type 0} (xs items : List X) (i len most : ℕ) → len ≡ length items → items ≡ take i xs → i < length xs → length xs ≤ most → len < most
+room_left xs items i len most e same below room = omega (arith, ap length same, length-take-le i xs)
+
+pub push_reserved-requires : goal.push_reserved-requires
+push_reserved-requires g c =
+    let before = c.loop-entry in
+    room_left c.args.entries.now before.copy.items before.entry-index _ _ before.copy.ok.0 before.invariant.copied c.loop-entry-test.true before.invariant.room
+
+copied_more : {X : Type 0} (xs before after : List X) (i : ℕ) (x y : X) → i < length xs → before ≡ take i xs → after ≡ before ++ x ∷ [] → x ≡ y → y ≡ get_or xs i y → after ≡ take (i + 1) xs
+copied_more xs before after i x y below so_far pushed same here =
+    let more = take_more xs i y below in
+    cc
+
+pub loop-entry-preserved : goal.loop-entry-preserved
+loop-entry-preserved g c =
+    let before = c.loop-entry in
+    record {
+      copied = copied_more c.args.entries.now before.copy.items _ before.entry-index _ _ c.loop-entry-test.true before.invariant.copied c.push_reserved.ensures.items
+          c.in_ok-copy_of_entry.ensures c.entry-item.is;
+      room = subst (λ n. length c.args.entries.now ≤ n) (sym c.push_reserved.ensures.capacity) before.invariant.room;
+    }

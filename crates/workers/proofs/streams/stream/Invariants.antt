@@ -1,0 +1,5 @@
+use Rattle.pipe.specs.Rings.{SameTap}
+use Rattle.workers.proofs.streams.stream.Given as goal
+
+abbrev pub invariant-loop : goal.invariant-loop
+invariant-loop g l = SameTap l.initial.tap l.tap

@@ -1,0 +1,5 @@
+pub mod Checkpointed
+pub mod Claims
+pub mod Positions
+pub mod Shares
+pub mod Streams

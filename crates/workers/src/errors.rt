@@ -1,0 +1,202 @@
+//! Why calls, checkpoints and gatherings are refused.
+
+ghost use Rattle.std.specs.Prelude.{◌≡◌};
+
+use procedure::NoMemory;
+use std::error::Error;
+use std::fmt;
+use steps::{
+    AdvanceError, BeginError, CaptureError, CaptureToError, FinishError, StartError, StepError,
+};
+
+/// Why a call of a session wasn't answered.
+#[derive(Clone, Copy, Debug, PartialEq, Eq)]
+pub enum CallRefusal {
+    Begin(BeginError),
+    Step(StepError),
+    Finish(FinishError),
+}
+
+impl CallRefusal {
+    /// Whether the session can't go on: the table or the log is full, or memory is wanting.
+    pub fn stops(self) -> bool {
+        match self {
+            CallRefusal::Begin(refusal) => refusal == BeginError::NoMemory,
+            CallRefusal::Step(refusal) => {
+                refusal == StepError::TableFull || refusal == StepError::NoMemory
+            }
+            CallRefusal::Finish(refusal) => {
+                refusal == FinishError::LogFull || refusal == FinishError::NoMemory
+            }
+        }
+    }
+}
+
+impl From<BeginError> for CallRefusal {
+    fn from(refusal: BeginError) -> Self {
+        CallRefusal::Begin(refusal)
+    }
+}
+
+impl From<StepError> for CallRefusal {
+    fn from(refusal: StepError) -> Self {
+        CallRefusal::Step(refusal)
+    }
+}
+
+impl From<FinishError> for CallRefusal {
+    fn from(refusal: FinishError) -> Self {
+        CallRefusal::Finish(refusal)
+    }
+}
+
+impl fmt::Display for CallRefusal {
+    fn fmt<W: fmt::Write>(&self, f: &mut fmt::Formatter<W>) -> fmt::Result {
+        match self {
+            CallRefusal::Begin(refusal) => write!(f, "{refusal}"),
+            CallRefusal::Step(refusal) => write!(f, "{refusal}"),
+            CallRefusal::Finish(refusal) => write!(f, "{refusal}"),
+        }
+    }
+}
+
+impl Error for CallRefusal {}
+
+/// Why a checkpoint doesn't go on.
+#[derive(Clone, Copy, Debug, PartialEq, Eq)]
+pub enum CheckpointRefusal {
+    Start(StartError),
+    Advance(AdvanceError),
+    Capture(CaptureError),
+    CaptureTo(CaptureToError),
+    /// There is no room for its image in the list.
+    NoMemory,
+}
+
+impl From<StartError> for CheckpointRefusal {
+    fn from(refusal: StartError) -> Self {
+        CheckpointRefusal::Start(refusal)
+    }
+}
+
+impl From<AdvanceError> for CheckpointRefusal {
+    fn from(refusal: AdvanceError) -> Self {
+        CheckpointRefusal::Advance(refusal)
+    }
+}
+
+impl From<CaptureError> for CheckpointRefusal {
+    fn from(refusal: CaptureError) -> Self {
+        CheckpointRefusal::Capture(refusal)
+    }
+}
+
+impl From<CaptureToError> for CheckpointRefusal {
+    fn from(refusal: CaptureToError) -> Self {
+        CheckpointRefusal::CaptureTo(refusal)
+    }
+}
+
+impl From<NoMemory> for CheckpointRefusal {
+    fn from(_refused: NoMemory) -> Self {
+        CheckpointRefusal::NoMemory
+    }
+}
+
+impl fmt::Display for CheckpointRefusal {
+    fn fmt<W: fmt::Write>(&self, f: &mut fmt::Formatter<W>) -> fmt::Result {
+        match self {
+            CheckpointRefusal::Start(refusal) => write!(f, "{refusal}"),
+            CheckpointRefusal::Advance(refusal) => write!(f, "{refusal}"),
+            CheckpointRefusal::Capture(refusal) => write!(f, "{refusal}"),
+            CheckpointRefusal::CaptureTo(refusal) => write!(f, "{refusal}"),
+            CheckpointRefusal::NoMemory => f.write_str("no memory"),
+        }
+    }
+}
+
+impl Error for CheckpointRefusal {}
+
+/// Why a run gives no image of its streamed checkpoint.
+#[derive(Clone, Copy, Debug, PartialEq, Eq)]
+pub enum StreamError {
+    /// No memory was found for the ring. Nothing was started.
+    NoRing,
+    /// The ring has no end, or the core no header. It doesn't come where the checkpoint was made by the run.
+    NoEnd,
+    /// The entries that were drained aren't those of the header.
+    BadForm,
+    /// No turn was left.
+    TurnsOut,
+    NoMemory,
+    Refused(CheckpointRefusal),
+}
+
+impl StreamError {
+    ghost use Rattle.std.specs.Prelude.{◌≡◌};
+    ghost use Rattle.workers.specs.declared.errors.StreamError.TheVariants as refused;
+
+    /// That the core refused. Out of memory is one thing, wherever the core says it.
+    pub fn of_refusal(refusal: CheckpointRefusal) -> Self
+        ensures { result ≡ refused.NoRing → ⊥ }
+    {
+        match refusal {
+            CheckpointRefusal::NoMemory
+            | CheckpointRefusal::Start(StartError::NoMemory)
+            | CheckpointRefusal::Advance(AdvanceError::NoMemory)
+            | CheckpointRefusal::Capture(CaptureError::NoMemory)
+            | CheckpointRefusal::CaptureTo(CaptureToError::NoMemory) => StreamError::NoMemory,
+            _ => StreamError::Refused(refusal),
+        }
+    }
+}
+
+impl fmt::Display for StreamError {
+    fn fmt<W: fmt::Write>(&self, f: &mut fmt::Formatter<W>) -> fmt::Result {
+        match self {
+            StreamError::NoRing => f.write_str("no ring"),
+            StreamError::NoEnd => f.write_str("no end"),
+            StreamError::BadForm => f.write_str("bad form"),
+            StreamError::TurnsOut => f.write_str("turns out"),
+            StreamError::NoMemory => f.write_str("no memory"),
+            StreamError::Refused(refusal) => write!(f, "{refusal}"),
+        }
+    }
+}
+
+impl Error for StreamError {}
+
+/// Why answers aren't the calls of the records, each once.
+#[derive(Clone, Copy, Debug, PartialEq, Eq)]
+pub enum GatherError {
+    /// At an answer's place stands no call with its session, number, outcome and replies.
+    Stranger,
+    /// Two answers have one place.
+    Double,
+    /// No answer has the place of this call, the least one of which that holds.
+    Missing(usize),
+    NoMemory,
+}
+
+impl From<NoMemory> for GatherError {
+    ghost use Rattle.workers.specs.declared.errors.GatherError.TheVariants as refused;
+
+    ghost from_gives = { λ _ e. e ≡ refused.NoMemory };
+
+    fn from(_refused: NoMemory) -> Self {
+        GatherError::NoMemory
+    }
+}
+
+impl fmt::Display for GatherError {
+    fn fmt<W: fmt::Write>(&self, f: &mut fmt::Formatter<W>) -> fmt::Result {
+        match self {
+            GatherError::Stranger => f.write_str("stranger"),
+            GatherError::Double => f.write_str("double"),
+            GatherError::Missing(place) => write!(f, "missing at {place}"),
+            GatherError::NoMemory => f.write_str("no memory"),
+        }
+    }
+}
+
+impl Error for GatherError {}

@@ -1,0 +1,39 @@
+//! Threads round the core: one lock, and a thread for each session and for the checkpoints.
+//!
+//! `run_all` runs scripts so and reports what came of them. `gather` tells whether the answers that the
+//! threads were given are the calls of a log, each once.
+#![tactic(auto)]
+
+pub mod checkpointed;
+pub mod checkpoints;
+mod copies;
+#[cfg(test)]
+mod core_streaming_tests;
+#[cfg(test)]
+mod core_tests;
+pub mod errors;
+pub mod gates;
+pub mod gathering;
+mod publishing;
+#[cfg(test)]
+mod run_tests;
+pub mod runs;
+pub mod sessions;
+pub mod shared;
+pub mod shares;
+pub mod streamed_runs;
+#[cfg(test)]
+mod streamed_tests;
+mod streams;
+#[cfg(test)]
+mod tests;
+
+pub use checkpoints::{Progress, run_checkpoints};
+pub use errors::{CallRefusal, CheckpointRefusal, GatherError, StreamError};
+pub use gates::{Gate, Open, Point};
+pub use gathering::gather;
+pub use runs::{NotRun, Report, Script, TURNS, run_all};
+pub use sessions::run_session;
+pub use shared::{Locked, Shared, Tally};
+pub use shares::{Given, Response, Share};
+pub use streamed_runs::{StreamReport, run_streamed};

@@ -1,0 +1,169 @@
+//! A core under a lock, with the count of its calls.
+
+ghost use Rattle.std.specs.Prelude.{◌≡◌, ◌+◌, ◌<◌, [], IfOk, MatchResult, map};
+ghost use Rattle.commitlog.specs.Histories.{phase_of};
+ghost use Rattle.pipe.specs.Rings.{SameTap};
+ghost use Rattle.steps.specs.Schedules.{AdvancesAs, BeginsAs, FinishesAs, GivesUpAs, StartsAs, StepsAs, VisitsAs};
+ghost use Rattle.workers.specs.Checkpointed.{AreCuts, TakesInto, call_count, last_image};
+ghost use Rattle.workers.specs.Streams.{SendsAs, StreamsAs};
+
+use crate::checkpointed::Checkpointed;
+use image::{Image, Kind};
+use phase::Phase;
+use pipe::Tap;
+use procedure::NoMemory;
+use std::alloc::Allocator;
+use std::sync::Mutex;
+use std::sync::ledger::{Blank, Book, Ledger, Share as Part};
+use steps::{
+    AdvanceError, Answer, BeginError, CaptureError, CaptureToError, Captured, Core, FinishError,
+    NotActive, StartError, StepError, Stepped,
+};
+
+/// A part of the count of a log's calls. What it grows by is how many answers with a place its holder was
+/// given.
+#[derive(Drop)]
+pub struct Tally<L: Ledger> {
+    pub part: Part<L>,
+}
+
+/// What lies under the lock: a core with its images, and the book of a ledger whose total is the number of
+/// the log's calls. Each method is one call of the core.
+#[derive(Drop)]
+pub struct Locked<L: Ledger, A: Allocator> {
+    held: Checkpointed<A>,
+    calls: Book<L>,
+    ghost counted: { call_count held.core.log ≡ calls.total },
+}
+
+impl<L: Ledger, A: Allocator + Clone> Locked<L, A> {
+    pub fn begin(
+        &mut self,
+        session: u16,
+        number: u64,
+        procedure: u16,
+        args: Vec<Vec<u8, A>, A>,
+    ) -> Result<(), BeginError>
+        ensures { BeginsAs self.old.held.core self.new.held.core session number procedure (map (λ b. b.items) args.items) result }
+    {
+        self.held.begin(session, number, procedure, args)
+    }
+
+    pub fn step(&mut self, session: u16) -> Result<Stepped, StepError>
+        ensures { StepsAs self.old.held.core self.new.held.core session result }
+    {
+        self.held.step(session)
+    }
+
+    /// A call that is answered counts in the tally.
+    pub fn finish(&mut self, session: u16, tally: &mut Tally<L>) -> Result<Answer<A>, FinishError>
+        requires { 0 < tally.old.part.parts }
+        ensures core { FinishesAs self.old.held.core self.new.held.core session result }
+        ensures parts { tally.new.part.parts ≡ tally.old.part.parts }
+        ensures amount { MatchResult result (λ _. tally.new.part.amount ≡ tally.old.part.amount + 1) (λ _. tally.new.part.amount ≡ tally.old.part.amount) }
+    {
+        let Locked { held, calls } = self;
+        let answer = held.finish(session)?;
+        calls.add(&mut tally.part, 1);
+        Ok(answer)
+    }
+
+    pub fn give_up(&mut self, session: u16) -> Result<(), NotActive>
+        ensures { GivesUpAs self.old.held.core self.new.held.core session result }
+    {
+        self.held.give_up(session)
+    }
+
+    pub fn phase(&self) -> Phase
+        ensures { result ≡ phase_of self.now.held.core.log }
+    {
+        self.held.phase()
+    }
+
+    pub fn start(&mut self, kind: Kind) -> Result<u64, StartError>
+        ensures { StartsAs self.old.held.core self.new.held.core kind result }
+    {
+        self.held.start(kind)
+    }
+
+    pub fn start_streamed(&mut self, kind: Kind) -> Result<u64, StartError>
+        ensures { StreamsAs self.old.held.core self.new.held.core kind result }
+    {
+        self.held.start_streamed(kind)
+    }
+
+    pub fn advance(&mut self) -> Result<Phase, AdvanceError>
+        ensures { AdvancesAs self.old.held.core self.new.held.core result }
+    {
+        self.held.advance()
+    }
+
+    pub fn capture(&mut self) -> Result<Captured, CaptureError>
+        ensures { VisitsAs self.old.held.core self.new.held.core result }
+    {
+        self.held.capture()
+    }
+
+    pub fn capture_to(&mut self, tap: &mut Tap<A>) -> Result<Captured, CaptureToError>
+        ensures core { SendsAs self.old.held.core self.new.held.core tap.old tap.new result }
+        ensures ring { SameTap tap.old tap.new }
+    {
+        self.held.capture_to(tap)
+    }
+
+    /// The finished image goes to the end of the list, and whether there was one is answered. Where there is
+    /// no room for it (`NoMemory`) it waits on.
+    pub fn take_image(&mut self) -> Result<bool, NoMemory>
+        ensures { TakesInto self.old.held self.new.held result }
+    {
+        self.held.take_image()
+    }
+
+    /// A copy of the image that was taken last, if one was.
+    pub fn copy_of_last(&self) -> Result<Option<Image<A>>, NoMemory>
+        ensures { IfOk result (λ i. i ≡ last_image self.now.held.images) }
+    {
+        self.held.copy_of_last()
+    }
+}
+
+/// A core under its lock.
+#[derive(Drop)]
+pub struct Shared<L: Ledger, A: Allocator> {
+    pub(crate) lock: Mutex<Locked<L, A>>,
+}
+
+impl<L: Ledger, A: Allocator> Shared<L, A> {
+    /// A core under a lock, and the whole tally, whose amount is the number of calls that the log has. The
+    /// images go into the list, which is empty.
+    pub fn new(core: Core<A>, images: Vec<Image<A>, A>, blank: Blank) -> (Self, Tally<L>)
+        requires name { blank.name ≡ L.name }
+        requires parts { (blank.parts ≡ L.parts) × (0 < L.parts) }
+        requires empty { images.items ≡ [] }
+        ensures parts { result.1.part.parts ≡ L.parts }
+        ensures amount { result.1.part.amount ≡ call_count core.log }
+    {
+        let held = Checkpointed::new(core, images);
+        let (mut calls, mut part) = blank.open::<L>();
+        let count = held.count_calls();
+        calls.add(&mut part, count as u64);
+        let locked = Locked { held, calls };
+        let shared = Shared {
+            lock: Mutex::new(locked),
+        };
+        (shared, Tally { part })
+    }
+
+    /// The core and its images, by the whole tally. The log has as many calls as that says, and each image is
+    /// that of its checkpoint in the log.
+    pub fn close(self, all: Tally<L>) -> (Core<A>, Vec<Image<A>, A>)
+        requires { all.part.parts ≡ L.parts }
+        ensures calls { call_count result.0.log ≡ all.part.amount }
+        ensures cuts { AreCuts result.0 result.1.items }
+    {
+        let mut all = all;
+        let Locked { held, mut calls } = self.lock.into_inner();
+        calls.audit(&mut all.part);
+        held.into_parts()
+    }
+}
