@@ -240,7 +240,7 @@ fn long_schedule(rt: HostRuntime) -> Result<(), Fail> {
         (0, CHAIN, true, 64)
     );
     assert!(rt;
-        tally.answered > 50_000 && tally.images > 205 && tally.reclaimed > 36,
+        tally.answered > 50_000 && tally.images > 1_000 && tally.reclaimed > 100,
         "{tally:?}"
     );
     Ok(())
