@@ -1,5 +1,5 @@
 -- A program's commands, one by one, and what was given as an argument.
-use Rattle.std.proofs.Common.{◌≡◌, ap, ap₂, sym, false, ◌||◌, List, map, Option, Some, None, option_map, Result, Ok, Err, IfOk, IsOkAnd, ◌∙◌}
+use Rattle.std.proofs.Common.{◌≡◌, ◌⊎◌, inr, ap, ap₂, sym, false, ◌||◌, List, map, Option, Some, None, option_map, Result, Ok, Err, IfErr, IfOk, IsOkAnd, ◌∙◌}
 use Rattle.std.specs.Borrow.{Bor}
 use Rattle.std.specs.Option.{ok_or}
 use Rattle.clap.specs.Built.{AddsArg, AddsSubcommand}
@@ -8,6 +8,8 @@ use Rattle.clap.specs.Walk.{Rule, Text, rule_of}
 use Rattle.clap.specs.declared.builder.arg.Arg.{Arg}
 use Rattle.clap.specs.declared.builder.command.Command.{Command}
 use Rattle.clap.specs.declared.builder.command.Command.TheViews.{out-Command}
+use Rattle.calcdb.specs.declared.command_line.Unasked.{Unasked}
+use Rattle.calcdb.specs.declared.command_line.Unasked.TheVariants.{NoMemory}
 
 -- the command is this one, and no argument of it is global
 abbrev pub IsApp : Command → App → Type 0
@@ -30,6 +32,12 @@ pub given_text : {E : Type 0} (o : Option (Bor Text)) (e : E) (r : Result (Bor T
 given_text None e r given is same = rw is tt
 given_text (Some s) e r given is same = rw is (sym same)
 
+-- where no text is there, none was given
+pub no_text : {E : Type 0} (o : Option (Bor Text)) (e : E) (r : Result (Bor Text) E) (given : Option Text) →
+    r ≡ ok_or o e → option_map (λ s. s.now) o ≡ given → IfErr r (λ _. given ≡ None)
+no_text None e r given is same = rw is (sym same)
+no_text (Some s) e r given is same = rw is tt
+
 -- the texts that are there are those that were given
 pub given_texts : {E : Type 0} (o : Option (Bor (List (Bor Text)))) (e : E) (s : Bor (List (Bor Text))) (given : Option (List Text)) →
     Ok s ≡ ok_or o e → option_map (λ s. map (λ v. v.now) s.now) o ≡ given → given ≡ Some (map (λ v. v.now) s.now)
@@ -37,3 +45,14 @@ given_texts None e s given is same = absurd (cc)
 given_texts (Some t) e s given is same =
     let same_text : t ≡ s = cc in
     sym same ∙ ap (λ (b : Bor (List (Bor Text))). Some (map (λ v. v.now) b.now)) same_text
+
+-- where no texts are there, none were given
+pub no_texts : {E : Type 0} (o : Option (Bor (List (Bor Text)))) (e x : E) (given : Option (List Text)) →
+    Err x ≡ ok_or o e → option_map (λ s. map (λ v. v.now) s.now) o ≡ given → given ≡ None
+no_texts None e x given is same = sym same
+no_texts (Some s) e x given is same = absurd (cc)
+
+-- what isn't refused for memory is refused for this
+pub refused_for : {T : Type 0} (r : Result T Unasked) (B : Type 0) → B → IfErr r (λ e. (e ≡ NoMemory) ⊎ B)
+refused_for (Ok t) B b = tt
+refused_for (Err e) B b = inr b

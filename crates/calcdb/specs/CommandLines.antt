@@ -1,8 +1,13 @@
 -- What the words of a command line ask for.
-use Rattle.std.specs.Prelude.{◌≡◌, true, codes, fold, List, [], ◌∷◌, map, option_map, Some}
+use Rattle.std.specs.Prelude.{◌≡◌, ◌⊎◌, true, codes, fold, List, [], ◌∷◌, map, option_map, Some}
+use Rattle.clap.specs.Faults.{fault_of}
+use Rattle.clap.specs.Kinds.{HasKind}
+use Rattle.clap.specs.Values.{kind_of}
 use Rattle.clap.specs.Walk.{Row, Rule, Text, all_of, first_of}
 use Rattle.clap.specs.Simple.{App, new_app, new_rule, on_top, subcommand_of, with_rule, with_subcommand}
 use Rattle.clap.specs.declared.builder.action.ArgAction.TheVariants.{Append}
+use Rattle.clap.specs.declared.error.Error.{Error}
+use Rattle.clap.specs.declared.error.kind.ErrorKind.TheVariants.{MissingSubcommand}
 use Rattle.calcdb.specs.declared.command_line.Task.{Task}
 use Rattle.calcdb.specs.declared.command_line.Task.TheVariants.{Load, Merge, Recover, Run, Show}
 
@@ -67,3 +72,13 @@ AsksFor given (Show file) = (given.0 ≡ codes "show") × (first_of (codes "FILE
 
 abbrev pub IsTask : List Text → Task → Type 0
 IsTask words task = (given : Text × List Row) × (subcommand_of calcdb_app words ≡ Some given) × AsksFor given task
+
+abbrev pub AsksForNothing : Text × List Row → Type 0
+AsksForNothing given = (t : Task) → AsksFor given t → ⊥
+
+abbrev pub IsNoTask : List Text → Type 0
+IsNoTask words = (t : Task) → IsTask words t → ⊥
+
+-- why the words are refused: memory ran out, clap finds a fault of this kind, or they are no task
+abbrev pub IsRefused : List Text → Error → Type 0
+IsRefused words e = HasKind (fault_of calcdb_app words) e ⊎ ((kind_of e ≡ MissingSubcommand) × IsNoTask words)

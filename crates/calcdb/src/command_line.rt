@@ -1,7 +1,8 @@
 //! The command line.
 
-ghost use Rattle.std.specs.Prelude.{◌≡◌, IfOk, IsOkAnd, List, Some, codes, false, map, option_map};
+ghost use Rattle.std.specs.Prelude.{◌≡◌, ◌⊎◌, [], IfErr, IfOk, IsOkAnd, List, None, Some, codes, false, map, option_map};
 ghost use Rattle.clap.specs.Built.{AddsSubcommand};
+ghost use Rattle.clap.specs.Faults.{fault_of};
 ghost use Rattle.clap.specs.Matches.{found_of};
 ghost use Rattle.clap.specs.Simple.{App, app_of, subcommand_rows_of};
 ghost use Rattle.clap.specs.Values.{kind_of};
@@ -9,7 +10,8 @@ ghost use Rattle.clap.specs.Walk.{Row, Text, all_of, first_of, rows_of, rule_of}
 ghost use Rattle.clap.specs.declared.builder.command.Command.TheViews.{out-Command};
 ghost use Rattle.clap.specs.declared.error.kind.ErrorKind.TheVariants.{MissingSubcommand};
 ghost use Rattle.calcdb.specs.CommandLines as spec;
-ghost use Rattle.calcdb.specs.CommandLines.{AsksFor, IsTask, calcdb_app, load_app, merge_app, recover_app, run_app, show_app};
+ghost use Rattle.calcdb.specs.declared.command_line.Unasked.TheVariants as unasked;
+ghost use Rattle.calcdb.specs.CommandLines.{AsksFor, AsksForNothing, IsRefused, IsTask, calcdb_app, load_app, merge_app, recover_app, run_app, show_app};
 
 use clap::error::ErrorKind;
 use clap::{Arg, ArgAction, ArgMatches, Command, Error};
@@ -173,6 +175,8 @@ enum Unasked {
 }
 
 impl From<AllocError> for Unasked {
+    ghost from_gives = { λ _ e. e ≡ unasked.NoMemory };
+
     fn from(_refused: AllocError) -> Self {
         Unasked::NoMemory
     }
@@ -180,7 +184,8 @@ impl From<AllocError> for Unasked {
 
 /// What was given as this argument.
 fn given_once<'a>(given: &ArgMatches<'a>, name: &str) -> Result<&'a str, Unasked>
-    ensures { IfOk result (λ s. first_of name.now (rows_of (found_of given.now)) ≡ Some s.now) }
+    ensures given { IfOk result (λ s. first_of name.now (rows_of (found_of given.now)) ≡ Some s.now) }
+    ensures missing { IfErr result (λ _. first_of name.now (rows_of (found_of given.now)) ≡ None) }
 {
     given.get_str(name).ok_or(Unasked::Missing)
 }
@@ -191,7 +196,8 @@ fn given_all<'a>(
     given: &ArgMatches<'a>,
     name: &str,
 ) -> Result<Vec<&'a str, Global>, Unasked>
-    ensures { IfOk result (λ v. all_of name.now (rows_of (found_of given.now)) ≡ Some (map (λ s. s.now) v.items)) }
+    ensures given { IfOk result (λ v. all_of name.now (rows_of (found_of given.now)) ≡ Some (map (λ s. s.now) v.items)) }
+    ensures missing { IfErr result (λ e. (e ≡ unasked.NoMemory) ⊎ (all_of name.now (rows_of (found_of given.now)) ≡ None)) }
 {
     let texts = given.get_strs(name).ok_or(Unasked::Missing)?;
     Ok(Vec::from_slice(alloc, texts)?)
@@ -206,7 +212,8 @@ fn given_perhaps<'a>(given: &ArgMatches<'a>, name: &str) -> Option<&'a str>
 
 /// What `run` asks for with these arguments.
 fn asked_run<'a>(given: &ArgMatches<'a>) -> Result<Task<'a>, Unasked>
-    ensures { IfOk result (λ t. AsksFor (codes "run", rows_of (found_of given.now)) t) }
+    ensures task { IfOk result (λ t. AsksFor (codes "run", rows_of (found_of given.now)) t) }
+    ensures missing { IfErr result (λ e. (e ≡ unasked.NoMemory) ⊎ AsksForNothing (codes "run", rows_of (found_of given.now))) }
 {
     Ok(Task::Run(RunFiles {
         script: given_once(given, "SCRIPT")?,
@@ -217,7 +224,8 @@ fn asked_run<'a>(given: &ArgMatches<'a>) -> Result<Task<'a>, Unasked>
 
 /// What `load` asks for with these arguments.
 fn asked_load<'a>(given: &ArgMatches<'a>) -> Result<Task<'a>, Unasked>
-    ensures { IfOk result (λ t. AsksFor (codes "load", rows_of (found_of given.now)) t) }
+    ensures task { IfOk result (λ t. AsksFor (codes "load", rows_of (found_of given.now)) t) }
+    ensures missing { IfErr result (λ e. (e ≡ unasked.NoMemory) ⊎ AsksForNothing (codes "load", rows_of (found_of given.now))) }
 {
     Ok(Task::Load {
         pairs: given_once(given, "PAIRS")?,
@@ -227,7 +235,8 @@ fn asked_load<'a>(given: &ArgMatches<'a>) -> Result<Task<'a>, Unasked>
 
 /// What `merge` asks for with these arguments.
 fn asked_merge<'a>(alloc: Global, given: &ArgMatches<'a>) -> Result<Task<'a>, Unasked>
-    ensures { IfOk result (λ t. AsksFor (codes "merge", rows_of (found_of given.now)) t) }
+    ensures task { IfOk result (λ t. AsksFor (codes "merge", rows_of (found_of given.now)) t) }
+    ensures missing { IfErr result (λ e. (e ≡ unasked.NoMemory) ⊎ AsksForNothing (codes "merge", rows_of (found_of given.now))) }
 {
     Ok(Task::Merge {
         out: given_once(given, "OUT")?,
@@ -237,7 +246,8 @@ fn asked_merge<'a>(alloc: Global, given: &ArgMatches<'a>) -> Result<Task<'a>, Un
 
 /// What `recover` asks for with these arguments.
 fn asked_recover<'a>(alloc: Global, given: &ArgMatches<'a>) -> Result<Task<'a>, Unasked>
-    ensures { IfOk result (λ t. AsksFor (codes "recover", rows_of (found_of given.now)) t) }
+    ensures task { IfOk result (λ t. AsksFor (codes "recover", rows_of (found_of given.now)) t) }
+    ensures missing { IfErr result (λ e. (e ≡ unasked.NoMemory) ⊎ AsksForNothing (codes "recover", rows_of (found_of given.now))) }
 {
     Ok(Task::Recover {
         script: given_once(given, "SCRIPT")?,
@@ -249,7 +259,8 @@ fn asked_recover<'a>(alloc: Global, given: &ArgMatches<'a>) -> Result<Task<'a>, 
 
 /// What `show` asks for with these arguments.
 fn asked_show<'a>(given: &ArgMatches<'a>) -> Result<Task<'a>, Unasked>
-    ensures { IfOk result (λ t. AsksFor (codes "show", rows_of (found_of given.now)) t) }
+    ensures task { IfOk result (λ t. AsksFor (codes "show", rows_of (found_of given.now)) t) }
+    ensures missing { IfErr result (λ e. (e ≡ unasked.NoMemory) ⊎ AsksForNothing (codes "show", rows_of (found_of given.now))) }
 {
     Ok(Task::Show {
         file: given_once(given, "FILE")?,
@@ -258,7 +269,8 @@ fn asked_show<'a>(given: &ArgMatches<'a>) -> Result<Task<'a>, Unasked>
 
 /// What a command of this name asks for with these arguments.
 fn task_of<'a>(alloc: Global, name: &str, given: &ArgMatches<'a>) -> Result<Task<'a>, Unasked>
-    ensures { IfOk result (λ t. AsksFor (name.now, rows_of (found_of given.now)) t) }
+    ensures task { IfOk result (λ t. AsksFor (name.now, rows_of (found_of given.now)) t) }
+    ensures missing { IfErr result (λ e. (e ≡ unasked.NoMemory) ⊎ AsksForNothing (name.now, rows_of (found_of given.now))) }
 {
     match name {
         "run" => asked_run(given),
@@ -272,8 +284,8 @@ fn task_of<'a>(alloc: Global, name: &str, given: &ArgMatches<'a>) -> Result<Task
 
 /// What the command that was entered asks for.
 fn asked<'a>(alloc: Global, matches: &ArgMatches<'a>) -> Result<Task<'a>, Unasked>
-    ensures { IfOk result (λ t. (given : Text × List Row)
-        × (subcommand_rows_of matches.now ≡ Some given) × AsksFor given t) }
+    ensures task { IfOk result (λ t. (given : Text × List Row) × (subcommand_rows_of matches.now ≡ Some given) × AsksFor given t) }
+    ensures missing { IfErr result (λ e. (e ≡ unasked.NoMemory) ⊎ ((given : Text × List Row) → subcommand_rows_of matches.now ≡ Some given → AsksForNothing given)) }
 {
     match matches.subcommand() {
         Some((name, given)) => task_of(alloc, name, given),
@@ -283,7 +295,7 @@ fn asked<'a>(alloc: Global, matches: &ArgMatches<'a>) -> Result<Task<'a>, Unaske
 
 /// Clap's error where the matches ask for nothing.
 fn refused<'a>(program: &mut Command<'a>, why: Unasked) -> Result<Error, AllocError>
-    ensures { IfOk result (λ e. kind_of e ≡ MissingSubcommand) }
+    ensures { IfOk result (λ e. (kind_of e ≡ MissingSubcommand) × (why ≡ unasked.Missing)) }
 {
     match why {
         Unasked::NoMemory => Err(AllocError),
@@ -298,7 +310,9 @@ fn job_of<'a, S: AsStr>(
     words: &'a [S],
 ) -> Result<Task<'a>, Error>
     requires { app_of program.old ≡ calcdb_app }
-    ensures { IfOk result (λ t. IsTask (map S.text words.entry.now) t) }
+    ensures task { IfOk result (λ t. IsTask (map S.text words.entry.now) t) }
+    ensures faultless { IfOk result (λ _. fault_of calcdb_app (map S.text words.entry.now) ≡ []) }
+    ensures refused { IfErr result (IsRefused (map S.text words.entry.now)) }
 {
     let asked = asked(alloc, &program.try_get_matches_from_mut(words)?);
     match asked {
@@ -310,7 +324,9 @@ fn job_of<'a, S: AsStr>(
 /// What the words ask for, of which the first is the program's name; or clap's error, which also stands
 /// for a text that was asked for, as help.
 pub(crate) fn job<'a, S: AsStr>(alloc: Global, words: &'a [S]) -> Result<Task<'a>, Error>
-    ensures { IfOk result (λ t. IsTask (map S.text words.entry.now) t) }
+    ensures task { IfOk result (λ t. IsTask (map S.text words.entry.now) t) }
+    ensures faultless { IfOk result (λ _. fault_of calcdb_app (map S.text words.entry.now) ≡ []) }
+    ensures refused { IfErr result (IsRefused (map S.text words.entry.now)) }
 {
     let mut program = described(alloc)?;
     let job = job_of(alloc, &mut program, words);

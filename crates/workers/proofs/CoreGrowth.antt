@@ -1,6 +1,6 @@
 -- Each call of a core grows its log by no record but what it says.
-use Rattle.std.proofs.Common.{◌≡◌, ℕ, suc, ◌+◌, add-zero, List, [], ◌∷◌, ◌++◌, Option, Some, None, refl, sym, ap, ◌∙◌, subst, inl, inr}
-use Rattle.std.specs.Prelude.{◌⊎◌, Ok, Err, IfOk, OnOk, OnErr, cond, MatchResult}
+use Rattle.std.proofs.Common.{◌≡◌, ℕ, suc, ◌+◌, add-zero, List, [], ◌∷◌, ◌++◌, Option, Some, None, refl, sym, ap, ◌∙◌}
+use Rattle.std.specs.Prelude.{Ok, Err, MatchResult}
 use Rattle.std.specs.declared.result.Result.{Result}
 use Rattle.std.proofs.lemmas.List.{append-nil}
 use Rattle.procedure.specs.Bytes.{Bytes}
@@ -8,12 +8,11 @@ use Rattle.phase.specs.declared.phases.Phase.{Phase}
 use Rattle.phase.specs.declared.phases.Phase.TheVariants as phase
 use Rattle.commitlog.specs.Histories.{number_of}
 use Rattle.commitlog.specs.Records.{Record, Token}
-use Rattle.image.specs.Images.{Image}
 use Rattle.image.specs.declared.images.Kind.{Kind}
 use Rattle.pipe.specs.declared.taps.Tap.{Tap}
-use Rattle.steps.specs.CoreViews.{CoreView, Finishes, OfOpen, Steps, Underway, answer_of, open_at}
+use Rattle.steps.specs.CoreViews.{CoreView, Finishes, Steps, Underway, answer_of, open_at}
 use Rattle.steps.specs.Checkpointing.{AdvancesTo, CompletesBy, taken}
-use Rattle.steps.specs.Refusals.{finish_refusal, step_refusal, unfinished, unstepped}
+use Rattle.steps.specs.Refusals.{unfinished, unstepped}
 use Rattle.steps.specs.Schedules.{AdvancesAs, BeginsAs, FinishesAs, GivesUpAs, StartsAs, StepsAs, VisitsAs}
 use Rattle.steps.specs.declared.captures.Captured.{Captured}
 use Rattle.steps.specs.declared.captures.Captured.TheVariants.{Slot, Done}

@@ -1,13 +1,10 @@
 -- What calls of a core leave of its log: how many calls it has, and the images of its checkpoints.
-use Rattle.std.proofs.Common.{◌≡◌, ℕ, suc, ◌+◌, List, [], ◌∷◌, ◌++◌, Option, Some, None, refl, sym, ap, ◌∙◌, subst, arith, inl, inr}
-use Rattle.std.specs.Prelude.{◌⊎◌, Ok, Err, IfOk, OnOk, OnErr, MatchResult, count_by, cond}
-use Rattle.std.specs.declared.result.Result.{Result}
+use Rattle.std.proofs.Common.{◌≡◌, ℕ, ◌+◌, List, [], ◌∷◌, ◌++◌, sym, ap, ◌∙◌, subst}
+use Rattle.std.specs.Prelude.{cond}
 use Rattle.std.proofs.lemmas.List.Sums.{sum_by-append}
 use Rattle.procedure.specs.Procedures.{Procedure}
 use Rattle.procedure.specs.Table.{Table}
-use Rattle.phase.specs.declared.phases.Phase.{Phase}
-use Rattle.phase.specs.declared.phases.Phase.TheVariants as phase
-use Rattle.commitlog.specs.Records.{Record, Token, Call}
+use Rattle.commitlog.specs.Records.{Record}
 use Rattle.commitlog.specs.Cuts.{HasCut}
 use Rattle.commitlog.specs.Histories.{IsCyclic}
 use Rattle.commitlog.specs.Laws.{KeepsCuts, KeepsImages}
@@ -16,7 +13,7 @@ use Rattle.image.specs.Merges.{table_of}
 use Rattle.image.specs.declared.images.Kind.{Kind}
 use Rattle.image.specs.declared.images.Kind.TheVariants.{Full, Partial}
 use Rattle.steps.specs.CoreViews.{CoreView}
-use Rattle.steps.specs.CutImages.{AllTaken, IsOfKind, IsTaken, plain}
+use Rattle.steps.specs.CutImages.{AllTaken, IsOfKind, plain}
 use Rattle.workers.specs.Claims.{is_call}
 use Rattle.workers.specs.Checkpointed.{AreCuts, ImagesStay, call_count}
 

@@ -1,4 +1,8 @@
 pub mod CoreGrowth
+pub mod Counting
 pub mod Faults
 pub mod Growth
+pub mod Places
+pub mod Protocol
+pub mod Rounds
 mod StreamedImage

@@ -8,7 +8,7 @@ use Rattle.image.specs.declared.headers.Header.{Header}
 use Rattle.steps.specs.CoreViews.{CoreView}
 use Rattle.steps.specs.CutImages.{IsTaken}
 use Rattle.steps.specs.Streaming.{HeadersFix, ShareDigest}
-use Rattle.workers.specs.Streams.{IsStreamed, SharesDigest}
+use Rattle.workers.specs.Streams.{IsStreamed}
 
 module _ (v : CoreView) (h : Header) (given sent : List Entry) (i : Image) (is : i ≡ assembled h sent) (taken : IsTaken v.catalog (table_of v.opening) v.log (assembled h given)) where
   either : (assembled h sent ≡ assembled h given) ⊎ ShareDigest sent given → IsStreamed v i

@@ -1,5 +1,5 @@
 -- A core with its images, and how many calls a log has.
-use Rattle.std.specs.Prelude.{◌≡◌, ℕ, Bool, true, false, List, [], ◌∷◌, ◌++◌, Option, Some, None, ◌-◌, count_by, is_some, length, slice_get, IfOk, OnErr}
+use Rattle.std.specs.Prelude.{◌≡◌, ℕ, Bool, List, ◌++◌, Option, ◌-◌, count_by, is_some, length, slice_get, IfOk, OnErr}
 use Rattle.std.specs.declared.result.Result.{Result}
 use Rattle.std.specs.Option.{option_to_list}
 use Rattle.procedure.specs.Table.{Table}

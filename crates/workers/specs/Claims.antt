@@ -1,5 +1,6 @@
 -- Answers with a place, and the calls of a log.
 use Rattle.std.specs.Prelude.{◌≡◌, ℕ, ◌<◌, ◌≤◌, ◌==◌, List, [], ◌∷◌, Bool, true, false, Option, Some, None, IsTrue, All, length, slice_get, slice_index_or, count_by, flat_map}
+use Rattle.commitlog.specs.Histories.{IsOrderly}
 use Rattle.commitlog.specs.Records.{Record, Token, Call}
 use Rattle.workers.specs.declared.shares.Given.{Given}
 use Rattle.workers.specs.declared.shares.Given.TheVariants.{Answered, Refused, TurnsOut}
@@ -76,3 +77,9 @@ module _ {A : Type 0} where
 abbrev pub mark_of : Bool → ℕ
 mark_of true = 1
 mark_of false = 0
+
+-- of two answers of a session that are calls of an orderly log, the one with the greater number has the later place
+abbrev pub PlacesRise : Type 0 → Type 0
+PlacesRise A =
+    (records : List Record) → IsOrderly records → (c d : Claim A) → IsOf records c → IsOf records d →
+    c.session ≡ d.session → c.number < d.number → c.answer.place < d.answer.place

@@ -18,8 +18,12 @@ pub enum CallRefusal {
 }
 
 impl CallRefusal {
+    ghost use Rattle.workers.specs.Shares.{stops_session};
+
     /// Whether the session can't go on: the table or the log is full, or memory is wanting.
-    pub fn stops(self) -> bool {
+    pub fn stops(self) -> bool
+        ensures { result ≡ stops_session self }
+    {
         match self {
             CallRefusal::Begin(refusal) => refusal == BeginError::NoMemory,
             CallRefusal::Step(refusal) => {
@@ -74,30 +78,50 @@ pub enum CheckpointRefusal {
 }
 
 impl From<StartError> for CheckpointRefusal {
+    ghost use Rattle.workers.specs.declared.errors.CheckpointRefusal.TheVariants as refused;
+
+    ghost from_gives = { λ e r. r ≡ refused.Start e };
+
     fn from(refusal: StartError) -> Self {
         CheckpointRefusal::Start(refusal)
     }
 }
 
 impl From<AdvanceError> for CheckpointRefusal {
+    ghost use Rattle.workers.specs.declared.errors.CheckpointRefusal.TheVariants as refused;
+
+    ghost from_gives = { λ e r. r ≡ refused.Advance e };
+
     fn from(refusal: AdvanceError) -> Self {
         CheckpointRefusal::Advance(refusal)
     }
 }
 
 impl From<CaptureError> for CheckpointRefusal {
+    ghost use Rattle.workers.specs.declared.errors.CheckpointRefusal.TheVariants as refused;
+
+    ghost from_gives = { λ e r. r ≡ refused.Capture e };
+
     fn from(refusal: CaptureError) -> Self {
         CheckpointRefusal::Capture(refusal)
     }
 }
 
 impl From<CaptureToError> for CheckpointRefusal {
+    ghost use Rattle.workers.specs.declared.errors.CheckpointRefusal.TheVariants as refused;
+
+    ghost from_gives = { λ e r. r ≡ refused.CaptureTo e };
+
     fn from(refusal: CaptureToError) -> Self {
         CheckpointRefusal::CaptureTo(refusal)
     }
 }
 
 impl From<NoMemory> for CheckpointRefusal {
+    ghost use Rattle.workers.specs.declared.errors.CheckpointRefusal.TheVariants as refused;
+
+    ghost from_gives = { λ _ r. r ≡ refused.NoMemory };
+
     fn from(_refused: NoMemory) -> Self {
         CheckpointRefusal::NoMemory
     }

@@ -4,7 +4,9 @@
 //! threads were given are the calls of a log, each once.
 #![tactic(auto)]
 
+pub mod calls;
 pub mod checkpointed;
+pub mod checkpointing;
 pub mod checkpoints;
 mod copies;
 #[cfg(test)]
@@ -14,6 +16,7 @@ mod core_tests;
 pub mod errors;
 pub mod gates;
 pub mod gathering;
+pub mod laws;
 mod publishing;
 #[cfg(test)]
 mod run_tests;
@@ -28,7 +31,9 @@ mod streams;
 #[cfg(test)]
 mod tests;
 
-pub use checkpoints::{Progress, run_checkpoints};
+pub use calls::{Session, make_calls};
+pub use checkpointing::run_checkpoints;
+pub use checkpoints::{Checkpoints, Progress, make_checkpoints};
 pub use errors::{CallRefusal, CheckpointRefusal, GatherError, StreamError};
 pub use gates::{Gate, Open, Point};
 pub use gathering::gather;

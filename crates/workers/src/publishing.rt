@@ -1,6 +1,6 @@
 //! Images are published as they are taken.
 
-use crate::checkpoints::Listener;
+use crate::checkpointing::Listener;
 use image::Image;
 use left_right::Absorb;
 use procedure::NoMemory;

@@ -3,7 +3,8 @@
 ghost use Rattle.std.specs.Prelude.{◌≡◌, ◌<◌};
 ghost use Rattle.view.specs.Views.{name_of};
 
-use crate::checkpoints::{Progress, run_checkpoints};
+use crate::checkpointing::run_checkpoints;
+use crate::checkpoints::Progress;
 use crate::errors::GatherError;
 use crate::gates::{Gate, Open, Point};
 use crate::gathering::gather;

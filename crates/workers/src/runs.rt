@@ -7,7 +7,8 @@ ghost use Rattle.workers.specs.Positions.{IsWithin};
 ghost use Rattle.workers.specs.Shares.{all_answered, answered};
 ghost use denote.Param.Send.{IsSync};
 
-use crate::checkpoints::{Listener, Progress, make_from};
+use crate::checkpointing::{Listener, make_from};
+use crate::checkpoints::Progress;
 use crate::copies::copy_of_image;
 use crate::gates::Gate;
 use crate::publishing::Publishing;

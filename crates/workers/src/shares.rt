@@ -14,6 +14,21 @@ pub enum Given<A: Allocator> {
     TurnsOut,
 }
 
+impl<A: Allocator> Given<A> {
+    ghost use Rattle.std.specs.Prelude.{◌≡◌};
+    ghost use Rattle.workers.specs.Shares.{stops};
+
+    /// Whether the session can't go on after it.
+    pub fn stops(&self) -> bool
+        ensures { result ≡ stops self.now }
+    {
+        match self {
+            Given::Refused(refusal) => refusal.stops(),
+            _ => false,
+        }
+    }
+}
+
 /// The number of a call, and what it was answered.
 #[derive(Debug, Drop)]
 pub struct Response<A: Allocator> {

@@ -1,0 +1,192 @@
+//! Runs in threads with a growth refused: it is refused before any thread, or stops a session or the checkpoints
+//! at most; the answers are the calls of the log, and an audit finds nothing.
+ghost use Rattle.std.specs.Prelude.{◌≡◌};
+ghost use Rattle.view.specs.Views.{name_of};
+
+use crate::tests::fixtures::opened;
+use crate::tests::growths::{Fallible, MOST};
+use crate::tests::many_sessions::{Outcome, outcome_of, scripts_of};
+use image::Kind;
+use std::alloc::Global;
+use std::marker::Brand;
+use std::sync::Wait;
+use std::test::Fail;
+use std::thread::Threads;
+use view::{Naming, Opened, Publisher, open_view};
+use workers::{Open, Report, StreamReport, TURNS, run_all, run_streamed};
+
+const KINDS: [Kind; 2] = [Kind::Full, Kind::Partial];
+
+const SESSIONS: u16 = 2;
+
+/// How many calls each session makes.
+const CALLS: u64 = 6;
+
+/// What came of a run in which a growth was to be refused.
+#[derive(Clone, Copy, Debug, PartialEq, Eq)]
+struct Tried {
+    /// How many growths it asked for.
+    asked: u64,
+    begun: bool,
+    /// Whether its outcome is right; of a run that wasn't begun, whether its log is empty.
+    right: bool,
+}
+
+/// Whether the answers are the calls of the log, an audit finds nothing, and each chain of images recovers what
+/// the opening does.
+fn is_right(outcome: &Outcome) -> bool {
+    outcome.gathered.is_ok() && outcome.audited.is_ok() && outcome.chains == outcome.same
+}
+
+fn ran<'a, J: Naming + Send + Sync, R: Threads + Wait + Sync>(
+    rt: &R,
+    heap: &'a Fallible<Global>,
+    publisher: Publisher<J, &R, &'a Fallible<Global>>,
+    refused: u64,
+) -> Result<Tried, Fail> {
+    let scripts = scripts_of(heap, SESSIONS, CALLS)?;
+    let core = opened(heap, "")?;
+    heap.arm(refused);
+    let ran = run_all(rt, heap, core, scripts, &KINDS, publisher, &Open);
+    let asked = heap.asked();
+    heap.arm(0);
+    let (begun, right) = match ran {
+        Ok(report) => {
+            let Report {
+                core,
+                shares,
+                images,
+                checkpoints: _,
+                publisher: _,
+                last: _,
+            } = report;
+            let outcome = outcome_of(heap, &core, shares, images.as_slice())?;
+            (true, is_right(&outcome))
+        }
+        Err(not_run) => (false, not_run.core.records().is_empty()),
+    };
+    Ok(Tried {
+        asked,
+        begun,
+        right,
+    })
+}
+
+fn ran_in_view<'a, J: Naming + Send + Sync, R: Threads + Wait + Sync>(
+    rt: &R,
+    heap: &'a Fallible<Global>,
+    opened_view: Opened<&'a Fallible<Global>>,
+    refused: u64,
+) -> Result<Tried, Fail>
+    requires { name_of opened_view ≡ J.book }
+{
+    heap.arm(0);
+    let (publisher, _, _) = open_view::<J, &R, &'a Fallible<Global>>(heap, rt, opened_view)?;
+    ran(rt, heap, publisher, refused)
+}
+
+fn ran_streamed<R: Threads + Wait + Sync>(
+    rt: &R,
+    heap: &Fallible<Global>,
+    refused: u64,
+) -> Result<Tried, Fail> {
+    let scripts = scripts_of(heap, SESSIONS, CALLS)?;
+    let core = opened(heap, "")?;
+    heap.arm(refused);
+    let report = run_streamed(rt, heap, core, scripts, Kind::Full, 1, TURNS, &Open);
+    let asked = heap.asked();
+    heap.arm(0);
+    let StreamReport {
+        core,
+        shares,
+        image,
+    } = report;
+    let mut images = Vec::new(heap);
+    if let Ok(image) = image {
+        images.push(image)?;
+    }
+    let outcome = outcome_of(heap, &core, shares, images.as_slice())?;
+    Ok(Tried {
+        asked,
+        begun: !core.records().is_empty(),
+        right: is_right(&outcome),
+    })
+}
+
+/// Of runs, how many weren't begun, how many were, and how many of all left something wrong.
+#[derive(Clone, Copy, Debug, PartialEq, Eq)]
+struct Counts {
+    not_begun: u64,
+    begun: u64,
+    wrong: u64,
+}
+
+const NO_RUNS: Counts = Counts {
+    not_begun: 0,
+    begun: 0,
+    wrong: 0,
+};
+
+impl Counts {
+    fn add(&mut self, ran: Tried) {
+        if ran.begun {
+            self.begun = self.begun.wrapping_add(1);
+        } else {
+            self.not_begun = self.not_begun.wrapping_add(1);
+        }
+        if !ran.right {
+            self.wrong = self.wrong.wrapping_add(1);
+        }
+    }
+
+    /// Whether some weren't begun, most were, and nothing is wrong.
+    fn are_right(self) -> bool {
+        self.not_begun > 0 && self.begun > 100 && self.wrong == 0
+    }
+}
+
+/// Runs with each growth refused in turn, up to one that asks for fewer.
+fn all_refused<R: Threads + Wait + Sync>(rt: &R, heap: &Fallible<Global>) -> Result<Counts, Fail> {
+    let mut counts = NO_RUNS;
+    for refused in 1..MOST {
+        let ran = ran_in_view::<Brand, R>(rt, heap, Opened::new(), refused)?;
+        counts.add(ran);
+        if ran.asked < refused {
+            break;
+        }
+    }
+    Ok(counts)
+}
+
+fn all_refused_streamed<R: Threads + Wait + Sync>(
+    rt: &R,
+    heap: &Fallible<Global>,
+) -> Result<Counts, Fail> {
+    let mut counts = NO_RUNS;
+    for refused in 1..MOST {
+        let ran = ran_streamed(rt, heap, refused)?;
+        counts.add(ran);
+        if ran.asked < refused {
+            break;
+        }
+    }
+    Ok(counts)
+}
+
+/// Two sessions beside a full and a partial checkpoint.
+#[test]
+fn growths_of_runs(rt: HostRuntime) -> Result<(), Fail> {
+    let heap = Fallible::new(rt.alloc());
+    let counts = all_refused(&rt, &heap)?;
+    assert_eq!(rt; (counts, counts.are_right()), (counts, true));
+    Ok(())
+}
+
+/// Two sessions beside a full checkpoint that is streamed through a ring of one entry.
+#[test]
+fn growths_of_streamed_runs(rt: HostRuntime) -> Result<(), Fail> {
+    let heap = Fallible::new(rt.alloc());
+    let counts = all_refused_streamed(&rt, &heap)?;
+    assert_eq!(rt; (counts, counts.are_right()), (counts, true));
+    Ok(())
+}
