@@ -1,6 +1,6 @@
 //! An open call, as a core keeps it.
 
-ghost use Rattle.std.specs.Prelude.{◌≡◌, IsNone, None, OnSome, option_copied, slice_index_or, slice_set};
+ghost use Rattle.std.specs.Prelude.{◌≡◌, IsNone, None, OnSome, option_copied, slice_index_or, slice_set, vec_capacity};
 ghost use Rattle.procedure.specs.Runs.{ended};
 
 use crate::notes::Note;
@@ -51,6 +51,7 @@ pub(crate) fn taken<A: Allocator>(
     ensures value { result ≡ slice_index_or calls.old.items session None }
     ensures some { OnSome result (calls.new.items ≡ slice_set calls.old.items session None) }
     ensures none { IsNone result → calls.new ≡ calls.old }
+    ensures capacity { vec_capacity calls.new ≡ vec_capacity calls.old }
 {
     if session < calls.len() && calls[session].is_some() {
         calls[session].take()

@@ -1,6 +1,6 @@
 //! How a checkpoint goes through its phases.
 
-ghost use Rattle.std.specs.Prelude.{◌≡◌, ◌≢◌, ◌≤◌, ◌++◌, ◌∷◌, [], IfErr, IfOk, IfSome, None, OnErr, OnOk, Some, length, map, suc};
+ghost use Rattle.std.specs.Prelude.{◌≡◌, ◌≢◌, ◌≤◌, ◌++◌, ◌∷◌, [], IfErr, IfOk, IfSome, IsOk, None, OnErr, OnOk, Some, length, map, suc};
 ghost use Rattle.std.specs.Option.{option_map};
 ghost use Rattle.phase.specs.Phases.{successor};
 ghost use Rattle.phase.specs.declared.phases.Phase.TheVariants.{Prepare, Resolve, Capture, Complete, Rest};
@@ -39,6 +39,7 @@ pub(crate) fn push_token<A: Allocator>(
     requires { length log.old.records ≢ LOG_RECORDS }
     ensures ok { OnOk result (log.new.records ≡ log.old.records ++ Token phase number ∷ []) }
     ensures err { OnErr result (log.new.records ≡ log.old.records) }
+    ensures memory { 1 ≤ log.old.room → IsOk result }
 {
     match log.push(Record::token(phase, number)) {
         Ok(()) => Ok(()),

@@ -1,11 +1,11 @@
 //! How a call is answered.
 
-ghost use Rattle.std.specs.Prelude.{◌≡◌, ◌≤◌, ◌≢◌, ◌==◌, ◌↔◌, ◌||◌, ◌++◌, ◌∷◌, [], ℕ, IfOk, OnErr, OnOk, None, Some, option_copied, if◌then◌else◌, is_some, length, map, slice_index_or, slice_set, vec_len};
+ghost use Rattle.std.specs.Prelude.{◌≡◌, ◌≤◌, ◌≢◌, ◌==◌, ◌↔◌, ◌||◌, ◌++◌, ◌∷◌, [], ℕ, ◌+◌, IfOk, IsOk, OnErr, OnOk, None, Some, option_copied, if◌then◌else◌, is_some, length, map, max, slice_index_or, slice_set, vec_len};
 ghost use Rattle.procedure.specs.Bytes.{Bytes};
 ghost use Rattle.procedure.specs.declared.outcomes.TheConstants.{COMMITTED};
 ghost use Rattle.commitlog.specs.Records.{Call as Answered, IsInRange, call_of};
 ghost use Rattle.commitlog.specs.declared.limits.TheConstants.{LOG_RECORDS};
-ghost use Rattle.record_store.specs.ChangedSets.{has, room};
+ghost use Rattle.record_store.specs.ChangedSets.{count, has, room};
 ghost use Rattle.record_store.specs.Stores.{records};
 ghost use Rattle.record_store.specs.declared.limits.TheConstants as stored;
 ghost use Rattle.steps.specs.inside.RecordEdits.{KeepsSlots, all_kept, all_undone, first_noted, noted_of};
@@ -48,6 +48,8 @@ fn make_room<A: Allocator>(
     ensures frozen { changed.new.frozen ≡ changed.old.frozen }
     ensures log_room { OnOk result (1 ≤ log.new.room) }
     ensures room { OnOk result (more ≤ room changed.new) }
+    ensures places { changed.new.places ≤ max changed.old.places (count changed.old.collecting + more) }
+    ensures memory { more ≤ room changed.old → 1 ≤ log.old.room → IsOk result }
 {
     changed.make_room(more)?;
     log.make_room()

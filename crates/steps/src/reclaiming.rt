@@ -60,6 +60,7 @@ fn learn<A: Allocator>(store: &mut Store<A>, aside: &mut Aside)
     ensures slots { length store.new ≡ length store.old }
     ensures keys { (slot : ℕ) → key_at store.new slot ≡ key_at store.old slot }
     ensures versions { (q : Bytes) → versions_in store.new q ≡ versions_in store.old q }
+    ensures same { IsKnown aside.old → (store.new ≡ store.old) × (aside.new ≡ aside.old) }
 {
     match *aside {
         Aside::Unknown => {
