@@ -1,5 +1,5 @@
 -- The slots that a store's fields stand for, and how they change.
-use Rattle.std.proofs.Common.{◌≡◌, ◌≢◌, ℕ, zero, suc, ◌+◌, ◌<◌, ◌≤◌, ◌⊎◌, inl, inr, cond, List, [], ◌∷◌, length, get_or, map, count_by, Option, Some, None, is_some, option_map, refl, sym, ap, ◌∙◌, subst, arith, slice_set, length-set, get_or-set_same, get_or-set_other, nat_eq}
+use Rattle.std.proofs.Common.{◌≡◌, ◌≢◌, ℕ, zero, suc, ◌+◌, ◌<◌, ◌≤◌, ◌⊎◌, inl, inr, cond, List, [], ◌∷◌, length, drop, get_or, map, count_by, Option, Some, None, is_none, is_some, not, Bool, ◌&&◌, option_map, refl, sym, ap, ◌∙◌, subst, arith, slice_set, length-set, get_or-set_same, get_or-set_other, nat_eq}
 use Rattle.std.proofs.Math.ListN.{get_or-map}
 use Rattle.std.proofs.lemmas.Bool.{cases_eq, false≢true}
 use Rattle.std.proofs.Common.{true, false}
@@ -9,35 +9,22 @@ use Rattle.record_store.proofs.Seen.{not_same}
 use Rattle.std.proofs.lemmas.List.Sums.{sum_by-cons}
 use Rattle.std.specs.Option.{option_and_then}
 use Rattle.std.specs.Cmp.Lexicographic.{pointwise}
-use Rattle.slab.specs.Slab.{Slab, get, slab_len}
 use Rattle.indexmap.specs.IndexMap.{get as found_at}
 use Rattle.procedure.specs.Bytes.{Bytes, Cell}
-use Rattle.record_store.specs.DeadKeys.{IsLeast, offer_at}
+use Rattle.record_store.specs.DeadKeys.{IsLeast, SameKey, offer_at}
 use Rattle.record_store.specs.Stores.{StoreRecord, Slots, Finds, IsLeastCandidate, HasKeysOnce, record_at_rest, record_at, key_at, changed, candidate_at, candidate_key}
-use Rattle.record_store.specs.Entries.{cleaned, seen, live_of, with_entry_stable, with_entry_copy, with_slots, offer_of, entry_changed}
-use Rattle.record_store.specs.Fields.{first, slots_of, entry_key, IsMarked, IsStore}
+use Rattle.record_store.specs.Entries.{cleaned, entry_at, entry_changed, live_of, offer_of, seen, taken, with_entry_copy, with_entry_stable}
+use Rattle.record_store.specs.Fields.{AreVacant, HasNot, slots_of, entry_key, IsMarked, IsStore}
 use Rattle.record_store.specs.declared.records.Entry.{Entry}
 use Rattle.record_store.specs.declared.stores.Store.TheInside.{Inside}
 
-in_order : (x y : ℕ) → (x < y) ⊎ (y ≤ x)
+pub in_order : (x y : ℕ) → (x < y) ⊎ (y ≤ x)
 in_order x zero = inr (omega arith)
 in_order zero (suc y) = inl (omega arith)
 in_order (suc x) (suc y) = elim (in_order x y) [ inl h ↦ inl (omega arith) | inr h ↦ inr (omega arith) ]
 
 same_slots : {X : Type 0} (xs ys : List (Option X)) → length xs ≡ length ys → ((i : ℕ) → get_or xs i None ≡ get_or ys i None) → xs ≡ ys
 same_slots xs ys len same = same_lists xs ys len (λ k d within. get_or_default xs k d None within ∙ same k ∙ get_or_default ys k None d (omega arith))
-
-length-first : (n : ℕ) (xs : Slots) → length (first n xs) ≡ n
-length-first zero xs = refl
-length-first (suc n) [] = ap suc (length-first n [])
-length-first (suc n) (x ∷ xs) = ap suc (length-first n xs)
-
-at_first : (n : ℕ) (xs : Slots) (i : ℕ) → i < n → record_at (first n xs) i ≡ record_at xs i
-at_first zero xs i h = absurd (omega arith)
-at_first (suc n) [] zero h = refl
-at_first (suc n) [] (suc i) h = at_first n [] i (omega arith)
-at_first (suc n) (x ∷ xs) zero h = refl
-at_first (suc n) (x ∷ xs) (suc i) h = at_first n xs i (omega arith)
 
 -- an edit of one slot, by a function that leaves a vacant one vacant
 pub edited_here : {X : Type 0} (g : Option X → Option X) → g None ≡ None → (xs : List (Option X)) (slot : ℕ) → get_or (slice_set xs slot (g (get_or xs slot None))) slot None ≡ g (get_or xs slot None)
@@ -58,19 +45,7 @@ count_edit f (o ∷ xs) (suc slot) = omega (
   sum_by-cons (λ o. cond (is_some o) 1 0) o (slice_set xs slot (option_map f (get_or xs slot None))),
 )
 
-count_first : (g : ℕ) (xs : Slots) → ((i : ℕ) → g ≤ i → record_at xs i ≡ None) → count_by is_some (first g xs) ≡ count_by is_some xs
-count_first zero [] none = refl
-count_first zero (None ∷ xs) none = omega (arith, count_first zero xs (λ i h. none (suc i) (omega arith)), sum_by-cons (λ o. cond (is_some o) 1 0) None xs)
-count_first zero (Some x ∷ xs) none = absurd (let e = none 0 (omega arith) in cc)
-count_first (suc g) [] none = omega (arith, count_first g [] (λ i h. refl), sum_by-cons (λ o. cond (is_some o) 1 0) None (first g []))
-count_first (suc g) (x ∷ xs) none = omega (
-  arith,
-  count_first g xs (λ i h. none (suc i) (omega arith)),
-  sum_by-cons (λ o. cond (is_some o) 1 0) x xs,
-  sum_by-cons (λ o. cond (is_some o) 1 0) x (first g xs),
-)
-
-count_map : {X : Type 0} (f : X → StoreRecord) (xs : List (Option X)) → count_by is_some (map (option_map f) xs) ≡ count_by is_some xs
+count_map : {X Y : Type 0} (f : X → Y) (xs : List (Option X)) → count_by is_some (map (option_map f) xs) ≡ count_by is_some xs
 count_map f [] = refl
 count_map f (None ∷ xs) = omega (arith, count_map f xs, sum_by-cons (λ o. cond (is_some o) 1 0) None xs, sum_by-cons (λ o. cond (is_some o) 1 0) None (map (option_map f) xs))
 count_map f (Some x ∷ xs) = omega (arith, count_map f xs, sum_by-cons (λ o. cond (is_some o) 1 0) (Some x) xs, sum_by-cons (λ o. cond (is_some o) 1 0) (Some (f x)) (map (option_map f) xs))
@@ -93,64 +68,81 @@ on_err (Ok x) p = tt
 on_err (Err e) p = p
 
 module _ {A : Type 0} where
-  at_past : (s : Inside A) → IsStore s → (i : ℕ) → s.used ≤ i → record_at (map (option_map (seen s.number)) s.slots.slots) i ≡ None
-  at_past s sound i past = get_or-map (option_map (seen s.number)) s.slots.slots i None ∙ ap (option_map (seen s.number)) (sound.used i past)
+  pub length-view : (s : Inside A) → length (slots_of s) ≡ length s.slots.items
+  length-view s = length-map s.slots.items (option_map (seen s.number))
 
-  pub length-view : (s : Inside A) → length (slots_of s) ≡ s.used
-  length-view s = length-first s.used _
+  pub view_at : (s : Inside A) (i : ℕ) → record_at (slots_of s) i ≡ option_map (seen s.number) (entry_at s.slots.items i)
+  view_at s i = get_or-map (option_map (seen s.number)) s.slots.items i None
 
-  pub view_at : (s : Inside A) → IsStore s → (i : ℕ) → record_at (slots_of s) i ≡ option_map (seen s.number) (get s.slots i)
-  view_at s sound i =
-      elim (in_order i s.used) [
-        | inl within ↦ at_first s.used _ i within ∙ get_or-map (option_map (seen s.number)) s.slots.slots i None
-        | inr past ↦ get_or_past (slots_of s) i None (omega (arith, length-view s)) ∙ sym (ap (option_map (seen s.number)) (sound.used i past))
-      ]
+  pub view_is : (s : Inside A) (xs : Slots) → length xs ≡ length s.slots.items → ((i : ℕ) → option_map (seen s.number) (entry_at s.slots.items i) ≡ record_at xs i) → slots_of s ≡ xs
+  view_is s xs len same = same_slots (slots_of s) xs (length-view s ∙ sym len) (λ i. view_at s i ∙ same i)
 
-  pub view_is : (s : Inside A) → IsStore s → (xs : Slots) → length xs ≡ s.used → ((i : ℕ) → option_map (seen s.number) (get s.slots i) ≡ record_at xs i) → slots_of s ≡ xs
-  view_is s sound xs len same = same_slots (slots_of s) xs (length-view s ∙ sym len) (λ i. view_at s sound i ∙ same i)
+  pub records_are : (s : Inside A) → IsStore s → count_by is_some (slots_of s) ≡ s.records
+  records_are s sound = count_map (seen s.number) s.slots.items ∙ sym sound.records
 
-  pub records_are : (s : Inside A) → IsStore s → count_by is_some (slots_of s) ≡ slab_len s.slots
-  records_are s sound = count_first s.used _ (at_past s sound) ∙ count_map (seen s.number) s.slots.slots
+  -- THE VACANT SLOTS
+
+  -- they stay vacant where each vacant slot does
+  pub vacant_kept :
+      (slots new : List (Option (Entry A))) (vs : List ℕ) → length new ≡ length slots → ((i : ℕ) → entry_at slots i ≡ None → entry_at new i ≡ None) → AreVacant slots vs → AreVacant new vs
+  vacant_kept slots new [] len none are = tt
+  vacant_kept slots new (v ∷ vs) len none are = (omega (arith, len, are.0), none v are.1, are.2, vacant_kept slots new vs len none are.3)
+
+  -- and where only a slot changes that isn't among them
+  pub vacant_beside :
+      (slots new : List (Option (Entry A))) (vs : List ℕ) (slot : ℕ) → length slots ≤ length new → ((i : ℕ) → i ≢ slot → entry_at new i ≡ entry_at slots i) → HasNot vs slot → AreVacant slots vs →
+      AreVacant new vs
+  vacant_beside slots new [] slot len others not are = tt
+  vacant_beside slots new (v ∷ vs) slot len others not are = (omega (arith, len, are.0), others v not.0 ∙ are.1, are.2, vacant_beside slots new vs slot len others not.1 are.3)
+
+  -- a slot with an entry isn't among them
+  pub taken_beside : (slots : List (Option (Entry A))) (vs : List ℕ) (slot : ℕ) (e : Entry A) → entry_at slots slot ≡ Some e → AreVacant slots vs → HasNot vs slot
+  taken_beside slots [] slot e is are = tt
+  taken_beside slots (v ∷ vs) slot e is are =
+      (λ same. let none : entry_at slots slot ≡ None = ap (entry_at slots) (sym same) ∙ are.1 in absurd (cc), taken_beside slots vs slot e is are.3)
 
   seen_key : (number : ℕ) (o : Option (Entry A)) → option_map (λ r. r.key) (option_map (seen number) o) ≡ option_map (λ e. e.key) o
   seen_key number None = refl
   seen_key number (Some e) = refl
 
-  pub key_is : (s : Inside A) → IsStore s → (i : ℕ) → key_at (slots_of s) i ≡ entry_key s.slots i
-  key_is s sound i = ap (option_map (λ r. r.key)) (view_at s sound i) ∙ seen_key s.number (get s.slots i)
+  pub key_is : (s : Inside A) (i : ℕ) → key_at (slots_of s) i ≡ entry_key s.slots.items i
+  key_is s i = ap (option_map (λ r. r.key)) (view_at s i) ∙ seen_key s.number (entry_at s.slots.items i)
 
   seen_offer : (number : ℕ) (o : Option (Entry A)) → option_and_then candidate_key (option_map (seen number) o) ≡ option_and_then offer_of o
   seen_offer number None = refl
   seen_offer number (Some e) = refl
 
   pub candidate_is : (s : Inside A) → IsStore s → (i : ℕ) → candidate_at (slots_of s) i ≡ offer_at s.dead i
-  candidate_is s sound i = ap (option_and_then candidate_key) (view_at s sound i) ∙ seen_offer s.number (get s.slots i) ∙ sym (sound.offers i)
+  candidate_is s sound i = ap (option_and_then candidate_key) (view_at s i) ∙ seen_offer s.number (entry_at s.slots.items i) ∙ sym (sound.offers i)
 
   -- one entry is changed
-  pub entry_here : (s : Slab (Entry A)) (f : Entry A → Entry A) (slot : ℕ) → get (entry_changed f s slot) slot ≡ option_map f (get s slot)
-  entry_here s f slot = edited_here (option_map f) refl s.slots slot
+  pub entry_here : (s : List (Option (Entry A))) (f : Entry A → Entry A) (slot : ℕ) → entry_at (entry_changed f s slot) slot ≡ option_map f (entry_at s slot)
+  entry_here s f slot = edited_here (option_map f) refl s slot
 
-  pub entry_other : (s : Slab (Entry A)) (f : Entry A → Entry A) (slot i : ℕ) → i ≢ slot → get (entry_changed f s slot) i ≡ get s i
-  entry_other s f slot i differs = get_or-set_other s.slots slot i _ None differs
+  pub entry_other : (s : List (Option (Entry A))) (f : Entry A → Entry A) (slot i : ℕ) → i ≢ slot → entry_at (entry_changed f s slot) i ≡ entry_at s i
+  entry_other s f slot i differs = get_or-set_other s slot i _ None differs
 
-  pub changed_view : (s new : Inside A) (f : Entry A → Entry A) (h : StoreRecord → StoreRecord) (slot : ℕ) → IsStore s → IsStore new → new.used ≡ s.used → new.number ≡ s.number →
-      new.slots ≡ entry_changed f s.slots slot → ((e : Entry A) → seen s.number (f e) ≡ h (seen s.number e)) → slots_of new ≡ changed h (slots_of s) slot
-  changed_view s new f h slot sound again used number is same =
-      view_is new again _ (length-set (slots_of s) slot _ ∙ length-view s ∙ sym used) (λ i.
-      ap (λ (n : ℕ). option_map (seen n) (get new.slots i)) number ∙ elim (cases_eq i slot) [
-        | inl here ↦ rw here (ap (λ (x : Slab (Entry A)). option_map (seen s.number) (get x slot)) is ∙ ap (option_map (seen s.number)) (entry_here s.slots f slot) ∙
-            map_twice f (seen s.number) (seen s.number) h same (get s.slots slot) ∙ ap (option_map h) (sym (view_at s sound slot)) ∙ sym (edited_here (option_map h) refl (slots_of s) slot))
-        | inr differs ↦ ap (λ (x : Slab (Entry A)). option_map (seen s.number) (get x i)) is ∙ ap (option_map (seen s.number)) (entry_other s.slots f slot i differs) ∙ sym (view_at s sound i) ∙
-            sym (get_or-set_other (slots_of s) slot i _ None differs)
+  pub changed_len : (s new : List (Option (Entry A))) (f : Entry A → Entry A) (slot : ℕ) → new ≡ entry_changed f s slot → length new ≡ length s
+  changed_len s new f slot is = ap length is ∙ length-set s slot (option_map f (entry_at s slot))
+
+  pub changed_view : (s new : Inside A) (f : Entry A → Entry A) (h : StoreRecord → StoreRecord) (slot : ℕ) → new.number ≡ s.number →
+      new.slots.items ≡ entry_changed f s.slots.items slot → ((e : Entry A) → seen s.number (f e) ≡ h (seen s.number e)) → slots_of new ≡ changed h (slots_of s) slot
+  changed_view s new f h slot number is same =
+      view_is new _ (length-set (slots_of s) slot _ ∙ length-view s ∙ sym (changed_len s.slots.items new.slots.items f slot is)) (λ i.
+      ap (λ (n : ℕ). option_map (seen n) (entry_at new.slots.items i)) number ∙ elim (cases_eq i slot) [
+        | inl here ↦ rw here (ap (λ (x : List (Option (Entry A))). option_map (seen s.number) (entry_at x slot)) is ∙ ap (option_map (seen s.number)) (entry_here s.slots.items f slot) ∙
+            map_twice f (seen s.number) (seen s.number) h same (entry_at s.slots.items slot) ∙ ap (option_map h) (sym (view_at s slot)) ∙ sym (edited_here (option_map h) refl (slots_of s) slot))
+        | inr differs ↦ ap (λ (x : List (Option (Entry A))). option_map (seen s.number) (entry_at x i)) is ∙ ap (option_map (seen s.number)) (entry_other s.slots.items f slot i differs) ∙
+            sym (view_at s i) ∙ sym (get_or-set_other (slots_of s) slot i _ None differs)
       ])
 
-  -- what holds of each entry of the changed slab
-  changed_each : (s new : Slab (Entry A)) (f : Entry A → Entry A) (slot : ℕ) (P : ℕ → Option (Entry A) → Type 0) → new ≡ entry_changed f s slot → P slot (option_map f (get s slot)) →
-      ((i : ℕ) → i ≢ slot → P i (get s i)) → (i : ℕ) → P i (get new i)
+  -- what holds of each entry of the changed slots
+  changed_each : (s new : List (Option (Entry A))) (f : Entry A → Entry A) (slot : ℕ) (P : ℕ → Option (Entry A) → Type 0) → new ≡ entry_changed f s slot → P slot (option_map f (entry_at s slot)) →
+      ((i : ℕ) → i ≢ slot → P i (entry_at s i)) → (i : ℕ) → P i (entry_at new i)
   changed_each s new f slot P is here others i =
       elim (cases_eq i slot) [
-        | inl same ↦ subst (λ (j : ℕ). P j (get new j)) (sym same) (subst (P slot) (sym (ap (λ (x : Slab (Entry A)). get x slot) is ∙ entry_here s f slot)) here)
-        | inr differs ↦ subst (P i) (sym (ap (λ (x : Slab (Entry A)). get x i) is ∙ entry_other s f slot i differs)) (others i differs)
+        | inl same ↦ subst (λ (j : ℕ). P j (entry_at new j)) (sym same) (subst (P slot) (sym (ap (λ (x : List (Option (Entry A))). entry_at x slot) is ∙ entry_here s f slot)) here)
+        | inr differs ↦ subst (P i) (sym (ap (λ (x : List (Option (Entry A))). entry_at x i) is ∙ entry_other s f slot i differs)) (others i differs)
       ]
 
   mapped_present : (f : Entry A → Entry A) (o : Option (Entry A)) (e : Entry A) → option_map f o ≡ Some e → (x : Entry A) × (o ≡ Some x) × (f x ≡ e)
@@ -161,25 +153,32 @@ module _ {A : Type 0} where
   mapped_key f keeps None = refl
   mapped_key f keeps (Some e) = ap (λ (k : Bytes). Some k) (keeps e)
 
-  pub keys_kept : (s new : Slab (Entry A)) (f : Entry A → Entry A) (slot : ℕ) → new ≡ entry_changed f s slot → ((e : Entry A) → (f e).key ≡ e.key) → (i : ℕ) → entry_key new i ≡ entry_key s i
-  keys_kept s new f slot is keeps = changed_each s new f slot (λ i o. option_map (λ e. e.key) o ≡ entry_key s i) is (mapped_key f keeps (get s slot)) (λ i differs. refl)
+  pub keys_kept : (s new : List (Option (Entry A))) (f : Entry A → Entry A) (slot : ℕ) → new ≡ entry_changed f s slot → ((e : Entry A) → (f e).key ≡ e.key) → (i : ℕ) → entry_key new i ≡ entry_key s i
+  keys_kept s new f slot is keeps = changed_each s new f slot (λ i o. option_map (λ e. e.key) o ≡ entry_key s i) is (mapped_key f keeps (entry_at s slot)) (λ i differs. refl)
 
-  pub changed_sound : (s new : Inside A) (f : Entry A → Entry A) (slot : ℕ) → IsStore s → new.used ≡ s.used → new.number ≡ s.number → new.index ≡ s.index → new.slots ≡ entry_changed f s.slots slot →
+  pub changed_sound : (s new : Inside A) (f : Entry A → Entry A) (slot : ℕ) → IsStore s → new ≡ record s { slots = new.slots; dead = new.dead } → new.slots.items ≡ entry_changed f s.slots.items slot →
       length new.dead ≡ length s.dead → ((e : Entry A) → (f e).key ≡ e.key) → ((e : Entry A) → IsMarked s.number e → IsMarked s.number (f e)) →
-      ((i : ℕ) → offer_at new.dead i ≡ option_and_then offer_of (get new.slots i)) → IsStore new
-  changed_sound s new f slot sound used number index is dead keeps marks offers =
+      ((i : ℕ) → offer_at new.dead i ≡ option_and_then offer_of (entry_at new.slots.items i)) → IsStore new
+  changed_sound s new f slot sound rest is dead keeps marks offers =
+      let number : new.number ≡ s.number = ap (λ (x : Inside A). x.number) rest in
+      let index : new.index ≡ s.index = ap (λ (x : Inside A). x.index) rest in
+      let records : new.records ≡ s.records = ap (λ (x : Inside A). x.records) rest in
+      let vacant : new.vacant ≡ s.vacant = ap (λ (x : Inside A). x.vacant) rest in
+      let len = changed_len s.slots.items new.slots.items f slot is in
+      let same : taken new.slots.items ≡ taken s.slots.items = ap taken is ∙ count_edit f s.slots.items slot in
       record {
         number = rw number sound.number;
-        marked = rw number (changed_each s.slots new.slots f slot (λ i o. (e : Entry A) → o ≡ Some e → IsMarked s.number e) is
-            (λ e there. let x = mapped_present f (get s.slots slot) e there in subst (IsMarked s.number) x.2 (marks x.0 (sound.marked slot x.0 x.1)))
+        marked = rw number (changed_each s.slots.items new.slots.items f slot (λ i o. (e : Entry A) → o ≡ Some e → IsMarked s.number e) is
+            (λ e there. let x = mapped_present f (entry_at s.slots.items slot) e there in subst (IsMarked s.number) x.2 (marks x.0 (sound.marked slot x.0 x.1)))
             (λ i differs. sound.marked i));
-        index = λ key i. rw (index, keys_kept s.slots new.slots f slot is keeps i) (sound.index key i);
-        used = rw used (changed_each s.slots new.slots f slot (λ i o. s.used ≤ i → o ≡ None) is
-            (λ past. ap (option_map f) (sound.used slot past))
-            (λ i differs. sound.used i));
-        places = rw (used, dead) sound.places;
+        index = λ key i. rw (index, keys_kept s.slots.items new.slots.items f slot is keeps i) (sound.index key i);
+        records = records ∙ sound.records ∙ sym same;
+        room = rw vacant (sound.room ∙ sym len);
+        vacant = rw (vacant, records) (vacant_kept s.slots.items new.slots.items (drop s.records s.vacant.items) len
+            (changed_each s.slots.items new.slots.items f slot (λ i o. entry_at s.slots.items i ≡ None → o ≡ None) is (λ none. ap (option_map f) none) (λ i differs none. none)) sound.vacant);
+        places = omega (arith, len, dead, sound.places);
         offers = offers;
-        few = rw is (rw (count_edit f s.slots.slots slot) sound.few);
+        few = rw records sound.few;
       }
 
   mapped_offer : (f : Entry A → Entry A) → ((e : Entry A) → offer_of (f e) ≡ offer_of e) → (o : Option (Entry A)) → option_and_then offer_of (option_map f o) ≡ option_and_then offer_of o
@@ -187,40 +186,65 @@ module _ {A : Type 0} where
   mapped_offer f keeps (Some e) = keeps e
 
   -- the offers stay, where the change keeps them
-  pub offers_kept : (s new : Inside A) (f : Entry A → Entry A) (slot : ℕ) → IsStore s → new.slots ≡ entry_changed f s.slots slot → new.dead ≡ s.dead → ((e : Entry A) → offer_of (f e) ≡ offer_of e) →
-      (i : ℕ) → offer_at new.dead i ≡ option_and_then offer_of (get new.slots i)
+  pub offers_kept : (s new : Inside A) (f : Entry A → Entry A) (slot : ℕ) → IsStore s → new.slots.items ≡ entry_changed f s.slots.items slot → new.dead ≡ s.dead → ((e : Entry A) → offer_of (f e) ≡ offer_of e) →
+      (i : ℕ) → offer_at new.dead i ≡ option_and_then offer_of (entry_at new.slots.items i)
   offers_kept s new f slot sound is dead keeps i =
       ap (λ (d : List (Option Bytes)). offer_at d i) dead ∙ sound.offers i
-      ∙ sym (changed_each s.slots new.slots f slot (λ i o. option_and_then offer_of o ≡ option_and_then offer_of (get s.slots i)) is (mapped_offer f keeps (get s.slots slot)) (λ j differs. refl) i)
+      ∙ sym (changed_each s.slots.items new.slots.items f slot (λ i o. option_and_then offer_of o ≡ option_and_then offer_of (entry_at s.slots.items i)) is (mapped_offer f keeps (entry_at s.slots.items slot)) (λ j differs. refl) i)
 
   -- the slot's offer is made again
-  pub offers_renewed : (s new : Inside A) (slot : ℕ) → IsStore s → new.dead ≡ slice_set s.dead slot (option_and_then offer_of (get new.slots slot)) → ((i : ℕ) → s.used ≤ i → get new.slots i ≡ None) →
-      ((i : ℕ) → i ≢ slot → get new.slots i ≡ get s.slots i) → (i : ℕ) → offer_at new.dead i ≡ option_and_then offer_of (get new.slots i)
-  offers_renewed s new slot sound dead used others i =
+  pub offers_renewed : (s new : Inside A) (slot : ℕ) → IsStore s → new.dead ≡ slice_set s.dead slot (option_and_then offer_of (entry_at new.slots.items slot)) →
+      length new.slots.items ≡ length s.slots.items → ((i : ℕ) → i ≢ slot → entry_at new.slots.items i ≡ entry_at s.slots.items i) →
+      (i : ℕ) → offer_at new.dead i ≡ option_and_then offer_of (entry_at new.slots.items i)
+  offers_renewed s new slot sound dead len others i =
       ap (λ (d : List (Option Bytes)). offer_at d i) dead ∙ elim (cases_eq i slot) [
         | inl same ↦ rw same (elim (in_order slot (length s.dead)) [
           | inl within ↦ get_or-set_same s.dead slot _ None within
-          | inr past ↦ get_or_past (slice_set s.dead slot (option_and_then offer_of (get new.slots slot))) slot None
-              (omega (arith, length-set s.dead slot (option_and_then offer_of (get new.slots slot)))) ∙ sym (ap (option_and_then offer_of) (used slot (omega (arith, sound.places))))
+          | inr past ↦ get_or_past (slice_set s.dead slot (option_and_then offer_of (entry_at new.slots.items slot))) slot None
+              (omega (arith, length-set s.dead slot (option_and_then offer_of (entry_at new.slots.items slot))))
+              ∙ sym (ap (option_and_then offer_of) (get_or_past new.slots.items slot None (omega (arith, len, sound.places))))
         ])
         | inr differs ↦ get_or-set_other s.dead slot i _ None differs ∙ sound.offers i ∙ sym (ap (option_and_then offer_of) (others i differs))
       ]
+
+  offered : (e : Entry A) (key : Bytes) (b : Bool) → cond b (Some e.key) None ≡ Some key → e.key ≡ key
+  offered e key true is = cc
+  offered e key false is = absurd (cc)
+
+  offers_own : (o : Option (Entry A)) (f : Entry A → Entry A) → ((e : Entry A) → (f e).key ≡ e.key) → SameKey (option_and_then offer_of o) (option_and_then offer_of (option_map f o))
+  offers_own None f keeps k l one other = absurd (cc)
+  offers_own (Some e) f keeps k l one other =
+      sym (offered (f e) l (is_none (f e).live && not (f e).aside) other) ∙ keeps e ∙ offered e k (is_none e.live && not e.aside) one
+
+  -- a changed entry may offer no other key than before
+  pub renewed_same :
+      (s : Inside A) (f : Entry A → Entry A) (slot : ℕ) (shown new : List (Option (Entry A))) → IsStore s → shown ≡ new → new ≡ entry_changed f s.slots.items slot → ((e : Entry A) → (f e).key ≡ e.key) →
+      SameKey (offer_at s.dead slot) (option_and_then offer_of (entry_at shown slot))
+  renewed_same s f slot shown new sound is changed keeps k l one other =
+      offers_own (entry_at s.slots.items slot) f keeps k l (sym (sound.offers slot) ∙ one)
+      (ap (option_and_then offer_of) (sym (ap (λ (x : List (Option (Entry A))). entry_at x slot) (is ∙ changed) ∙ entry_here s.slots.items f slot)) ∙ other)
+
+  -- an entry is changed, and its offer made again
+  pub renewed_sound :
+      (s new : Inside A) (f : Entry A → Entry A) (slot : ℕ) (shown : List (Option (Entry A))) → IsStore s → new ≡ record s { slots = new.slots; dead = new.dead } →
+      new.slots.items ≡ entry_changed f s.slots.items slot → shown ≡ new.slots.items → new.dead ≡ slice_set s.dead slot (option_and_then offer_of (entry_at shown slot)) →
+      ((e : Entry A) → (f e).key ≡ e.key) → ((e : Entry A) → IsMarked s.number e → IsMarked s.number (f e)) → IsStore new
+  renewed_sound s new f slot shown sound rest changed is dead keeps marks =
+      let renewed : new.dead ≡ slice_set s.dead slot (option_and_then offer_of (entry_at new.slots.items slot)) =
+      dead ∙ ap (λ (x : List (Option (Entry A))). slice_set s.dead slot (option_and_then offer_of (entry_at x slot))) is in
+      changed_sound s new f slot sound rest changed (ap length renewed ∙ length-set s.dead slot _) keeps marks
+      (offers_renewed s new slot sound renewed (changed_len s.slots.items new.slots.items f slot changed) (λ i differs. ap (λ (x : List (Option (Entry A))). entry_at x i) changed ∙
+      entry_other s.slots.items f slot i differs))
 
   pub live_seen : (number : ℕ) (o : Option (Entry A)) → live_of_record (option_map (seen number) o) ≡ live_of o
   live_seen number None = refl
   live_seen number (Some e) = refl
 
-  pub changed_used : (s new : Inside A) (f : Entry A → Entry A) (slot : ℕ) → IsStore s → new.slots ≡ entry_changed f s.slots slot → (i : ℕ) → s.used ≤ i → get new.slots i ≡ None
-  changed_used s new f slot sound is = changed_each s.slots new.slots f slot (λ i o. s.used ≤ i → o ≡ None) is (λ past. ap (option_map f) (sound.used slot past)) (λ i differs. sound.used i)
-
-  pub entry_other_in : (s new : Slab (Entry A)) (f : Entry A → Entry A) (slot : ℕ) → new ≡ entry_changed f s slot → (i : ℕ) → i ≢ slot → get new i ≡ get s i
-  entry_other_in s new f slot is i differs = ap (λ (x : Slab (Entry A)). get x i) is ∙ entry_other s f slot i differs
-
   pub finds : (s : Inside A) → IsStore s → (key : Bytes) (found : Option ℕ) → found ≡ found_at (pointwise nat_eq) s.index key → Finds (slots_of s) key found
   finds s sound key found is = record {
     only = λ slot. (
-      λ h. key_is s sound slot ∙ (sound.index key slot).0 (sym is ∙ h),
-      λ h. is ∙ (sound.index key slot).1 (sym (key_is s sound slot) ∙ h),
+      λ h. key_is s slot ∙ (sound.index key slot).0 (sym is ∙ h),
+      λ h. is ∙ (sound.index key slot).1 (sym (key_is s slot) ∙ h),
     );
   }
 
@@ -234,22 +258,25 @@ module _ {A : Type 0} where
   }
 
   -- all records at rest
-  rest_view : (s new : Inside A) → IsStore s → IsStore new → new.used ≡ s.used → ((i : ℕ) →
-      option_map (seen new.number) (get new.slots i) ≡ option_map record_at_rest (option_map (seen s.number) (get s.slots i))) → slots_of new ≡ map (option_map record_at_rest) (slots_of s)
-  rest_view s new sound again used same =
-      view_is new again _ (length-map (slots_of s) (option_map record_at_rest) ∙ length-view s ∙ sym used) (λ i.
-      same i ∙ ap (option_map record_at_rest) (sym (view_at s sound i)) ∙ sym (get_or-map (option_map record_at_rest) (slots_of s) i None))
+  rest_view : (s new : Inside A) → length new.slots.items ≡ length s.slots.items →
+      ((i : ℕ) → option_map (seen new.number) (entry_at new.slots.items i) ≡ option_map record_at_rest (option_map (seen s.number) (entry_at s.slots.items i))) →
+      slots_of new ≡ map (option_map record_at_rest) (slots_of s)
+  rest_view s new len same =
+      view_is new _ (length-map (slots_of s) (option_map record_at_rest) ∙ length-view s ∙ sym len) (λ i.
+      same i ∙ ap (option_map record_at_rest) (sym (view_at s i)) ∙ sym (get_or-map (option_map record_at_rest) (slots_of s) i None))
 
-  pub next_sound : (s new : Inside A) → IsStore s → new.slots ≡ s.slots → new.index ≡ s.index → new.dead ≡ s.dead → new.used ≡ s.used → new.number ≡ s.number + 1 → IsStore new
-  next_sound s new sound slots index dead used number =
+  pub next_sound : (s : Inside A) → IsStore s → IsStore (record s { number = s.number + 1 })
+  next_sound s sound =
       record {
         number = omega arith;
-        marked = rw (slots, number) (λ slot e there. let m = sound.marked slot e there in record { mark = omega (arith, m.mark); copied = omega (arith, m.copied) });
-        index = rw (slots, index) sound.index;
-        used = rw (slots, used) sound.used;
-        places = rw (dead, used) sound.places;
-        offers = rw (slots, dead) sound.offers;
-        few = rw slots sound.few;
+        marked = λ slot e there. let m = sound.marked slot e there in record { mark = omega (arith, m.mark); copied = omega (arith, m.copied) };
+        index = sound.index;
+        records = sound.records;
+        room = sound.room;
+        vacant = sound.vacant;
+        places = sound.places;
+        offers = sound.offers;
+        few = sound.few;
       }
 
   seen_next : (number : ℕ) (o : Option (Entry A)) → ((e : Entry A) → o ≡ Some e → IsMarked number e) → option_map (seen (number + 1)) o ≡ option_map record_at_rest (option_map (seen number) o)
@@ -260,10 +287,8 @@ module _ {A : Type 0} where
       let copied : (e.copied ≢ number + 1) = omega (arith, m.copied) in
       simp (not_same e.mark (number + 1) mark, not_same e.copied (number + 1) copied)
 
-  pub next_view : (s new : Inside A) → IsStore s → new.slots ≡ s.slots → new.index ≡ s.index → new.dead ≡ s.dead → new.used ≡ s.used → new.number ≡ s.number + 1 →
-      slots_of new ≡ map (option_map record_at_rest) (slots_of s)
-  next_view s new sound slots index dead used number =
-      rest_view s new sound (next_sound s new sound slots index dead used number) used (λ i. rw (slots, number) (seen_next s.number (get s.slots i) (sound.marked i)))
+  pub next_view : (s : Inside A) → IsStore s → slots_of (record s { number = s.number + 1 }) ≡ map (option_map record_at_rest) (slots_of s)
+  next_view s sound = rest_view s (record s { number = s.number + 1 }) refl (λ i. seen_next s.number (entry_at s.slots.items i) (sound.marked i))
 
   cleaned_key : (o : Option (Entry A)) → option_map (λ e. e.key) (option_map cleaned o) ≡ option_map (λ e. e.key) o
   cleaned_key None = refl
@@ -283,40 +308,57 @@ module _ {A : Type 0} where
   cleaned_seen number None = refl
   cleaned_seen number (Some e) = refl
 
-  pub cleaned_sound : (s new : Inside A) → IsStore s → ((i : ℕ) → get new.slots i ≡ option_map cleaned (get s.slots i)) → slab_len new.slots ≡ slab_len s.slots → new.index ≡ s.index →
-      new.dead ≡ s.dead → new.used ≡ s.used → new.number ≡ 1 → IsStore new
-  cleaned_sound s new sound slots len index dead used number =
+  cleaned_at : (slots new : List (Option (Entry A))) → new ≡ map (option_map cleaned) slots → (i : ℕ) → entry_at new i ≡ option_map cleaned (entry_at slots i)
+  cleaned_at slots new is i = ap (λ (x : List (Option (Entry A))). entry_at x i) is ∙ get_or-map (option_map cleaned) slots i None
+
+  pub cleaned_all : (slots new : List (Option (Entry A))) → length new ≡ length slots → ((i : ℕ) → i < length slots → entry_at new i ≡ option_map cleaned (entry_at slots i)) → new ≡ map (option_map cleaned) slots
+  cleaned_all slots new len at = same_slots new (map (option_map cleaned) slots) (len ∙ sym (length-map slots (option_map cleaned))) (λ i. elim (in_order i (length slots)) [
+    | inl below ↦ at i below ∙ sym (get_or-map (option_map cleaned) slots i None)
+    | inr past ↦ get_or_past new i None (omega (arith, len)) ∙ sym (get_or_past (map (option_map cleaned) slots) i None (omega (arith, length-map slots (option_map cleaned))))
+  ])
+
+  pub cleaned_sound : (s new : Inside A) → IsStore s → new.slots.items ≡ map (option_map cleaned) s.slots.items → new ≡ record s { slots = new.slots; number = 1 } → IsStore new
+  cleaned_sound s new sound is rest =
+      let at = cleaned_at s.slots.items new.slots.items is in
+      let number : new.number ≡ 1 = ap (λ (x : Inside A). x.number) rest in
+      let index : new.index ≡ s.index = ap (λ (x : Inside A). x.index) rest in
+      let records : new.records ≡ s.records = ap (λ (x : Inside A). x.records) rest in
+      let vacant : new.vacant ≡ s.vacant = ap (λ (x : Inside A). x.vacant) rest in
+      let dead : new.dead ≡ s.dead = ap (λ (x : Inside A). x.dead) rest in
+      let len : length new.slots.items ≡ length s.slots.items = ap length is ∙ length-map s.slots.items (option_map cleaned) in
       record {
-        number = omega arith;
-        marked = λ slot e there. subst (λ (n : ℕ). IsMarked n e) (sym number) (cleaned_marked (get s.slots slot) e (sym (slots slot) ∙ there));
-        index = λ key slot. rw (index, ap (option_map (λ e. e.key)) (slots slot) ∙ cleaned_key (get s.slots slot)) (sound.index key slot);
-        used = λ slot past. slots slot ∙ ap (option_map cleaned) (sound.used slot (omega arith));
-        places = rw (dead, used) sound.places;
-        offers = λ slot. ap (λ (d : List (Option Bytes)). offer_at d slot) dead ∙ sound.offers slot ∙ sym (ap (option_and_then offer_of) (slots slot) ∙ cleaned_offer (get s.slots slot));
-        few = rw len sound.few;
+        number = omega (arith, number);
+        marked = λ slot e there. subst (λ (n : ℕ). IsMarked n e) (sym number) (cleaned_marked (entry_at s.slots.items slot) e (sym (at slot) ∙ there));
+        index = λ key slot. rw (index, ap (option_map (λ e. e.key)) (at slot) ∙ cleaned_key (entry_at s.slots.items slot)) (sound.index key slot);
+        records = records ∙ sound.records ∙ sym (ap taken is ∙ count_map cleaned s.slots.items);
+        room = rw vacant (sound.room ∙ sym len);
+        vacant = rw (vacant, records) (vacant_kept s.slots.items new.slots.items (drop s.records s.vacant.items) len (λ i none. at i ∙ ap (option_map cleaned) none) sound.vacant);
+        places = rw dead (omega (arith, len, sound.places));
+        offers = λ slot. ap (λ (d : List (Option Bytes)). offer_at d slot) dead ∙ sound.offers slot ∙ sym (ap (option_and_then offer_of) (at slot) ∙ cleaned_offer (entry_at s.slots.items slot));
+        few = rw records sound.few;
       }
 
-  pub cleaned_view : (s new : Inside A) → IsStore s → ((i : ℕ) → get new.slots i ≡ option_map cleaned (get s.slots i)) → slab_len new.slots ≡ slab_len s.slots → new.index ≡ s.index →
-      new.dead ≡ s.dead → new.used ≡ s.used → new.number ≡ 1 → slots_of new ≡ map (option_map record_at_rest) (slots_of s)
-  cleaned_view s new sound slots len index dead used number =
-      rest_view s new sound (cleaned_sound s new sound slots len index dead used number) used (λ i. rw number (ap (option_map (seen 1)) (slots i) ∙ cleaned_seen s.number (get s.slots i)))
+  pub cleaned_view : (s new : Inside A) → IsStore s → new.slots.items ≡ map (option_map cleaned) s.slots.items → new.number ≡ 1 → slots_of new ≡ map (option_map record_at_rest) (slots_of s)
+  cleaned_view s new sound is number =
+      rest_view s new (ap length is ∙ length-map s.slots.items (option_map cleaned))
+      (λ i. rw number (ap (option_map (seen 1)) (cleaned_at s.slots.items new.slots.items is i) ∙ cleaned_seen s.number (entry_at s.slots.items i)))
 
-  pub live_is : (s : Inside A) → IsStore s → (slot : ℕ) → live_of_record (record_at (slots_of s) slot) ≡ live_of (get s.slots slot)
-  live_is s sound slot = ap live_of_record (view_at s sound slot) ∙ live_seen s.number (get s.slots slot)
+  pub live_is : (s : Inside A) (slot : ℕ) → live_of_record (record_at (slots_of s) slot) ≡ live_of (entry_at s.slots.items slot)
+  live_is s slot = ap live_of_record (view_at s slot) ∙ live_seen s.number (entry_at s.slots.items slot)
 
   -- a copy of the entry's own live version
   copied_option : (o : Option (Entry A)) (number : ℕ) (copy : Cell) → copy ≡ live_of o → option_map (with_entry_stable copy number) o ≡ option_map (with_entry_copy number) o
   copied_option None number copy is = refl
   copied_option (Some e) number copy is = ap (λ (x : Cell). Some (with_entry_stable x number e)) is
 
-  pub copied_entry : (s : Slab (Entry A)) (slot number : ℕ) (copy : Cell) → copy ≡ live_of (get s slot) →
+  pub copied_entry : (s : List (Option (Entry A))) (slot number : ℕ) (copy : Cell) → copy ≡ live_of (entry_at s slot) →
       entry_changed (with_entry_stable copy number) s slot ≡ entry_changed (with_entry_copy number) s slot
-  copied_entry s slot number copy is = ap (λ (o : Option (Entry A)). with_slots s (slice_set s.slots slot o)) (copied_option (get s slot) number copy is)
+  copied_entry s slot number copy is = ap (slice_set s slot) (copied_option (entry_at s slot) number copy is)
 
   pub key_once : (s : Inside A) → IsStore s → HasKeysOnce (slots_of s)
   key_once s sound = record {
     once = λ i j key first second.
-        let one : found_at (pointwise nat_eq) s.index key ≡ Some i = (sound.index key i).1 (sym (key_is s sound i) ∙ first) in
-        let two : found_at (pointwise nat_eq) s.index key ≡ Some j = (sound.index key j).1 (sym (key_is s sound j) ∙ second) in
+        let one : found_at (pointwise nat_eq) s.index key ≡ Some i = (sound.index key i).1 (sym (key_is s i) ∙ first) in
+        let two : found_at (pointwise nat_eq) s.index key ≡ Some j = (sound.index key j).1 (sym (key_is s j) ∙ second) in
         cc;
   }

@@ -1,8 +1,7 @@
 -- How the fields of a store stand for its slots.
-use Rattle.std.specs.Prelude.{ℕ, ◌==◌, Bool, true, not, ◌&&◌, if◌then◌else◌, List, Option, Some, None, is_none, slice_set}
+use Rattle.std.specs.Prelude.{◌≡◌, ◌≢◌, ℕ, ◌==◌, Bool, true, not, ◌&&◌, if◌then◌else◌, List, Option, Some, None, is_none, is_some, count_by, slice_index_or, slice_set}
 use Rattle.std.specs.Option.{option_map, option_and_then, option_copied}
 use Rattle.std.specs.Borrow.{Bor}
-use Rattle.slab.specs.Slab.{Slab, get}
 use Rattle.procedure.specs.Bytes.{Bytes, Cell}
 use Rattle.record_store.specs.Stores.{StoreRecord}
 use Rattle.record_store.specs.declared.records.Stable.{Stable}
@@ -11,6 +10,14 @@ use Rattle.record_store.specs.declared.records.Entry.{Entry}
 use Rattle.record_store.specs.declared.records.Record.{Record as Lent}
 
 module _ {A : Type 0} where
+  -- the entry in a slot
+  abbrev pub entry_at : List (Option (Entry A)) → ℕ → Option (Entry A)
+  entry_at slots slot = slice_index_or slots slot None
+
+  -- how many slots have an entry
+  abbrev pub taken : List (Option (Entry A)) → ℕ
+  taken slots = count_by is_some slots
+
   abbrev pub stable_seen : ℕ → Entry A → Stable Cell
   stable_seen number e = if e.copied == number then Was e.stable else Empty
 
@@ -28,12 +35,14 @@ module _ {A : Type 0} where
   abbrev pub live_of : Option (Entry A) → Cell
   live_of o = option_and_then (λ e. e.live) o
 
-  abbrev pub with_slots : Slab (Entry A) → List (Option (Entry A)) → Slab (Entry A)
-  with_slots s slots = record s { slots = slots }
-
   -- the entry in the slot is changed so
-  abbrev pub entry_changed : (Entry A → Entry A) → Slab (Entry A) → ℕ → Slab (Entry A)
-  entry_changed f s slot = with_slots s (slice_set s.slots slot (option_map f (get s slot)))
+  abbrev pub entry_changed : (Entry A → Entry A) → List (Option (Entry A)) → ℕ → List (Option (Entry A))
+  entry_changed f slots slot = slice_set slots slot (option_map f (entry_at slots slot))
+
+  -- the slot has the entry, and every other slot what it had
+  pub record IsPut (old new : List (Option (Entry A))) (slot : ℕ) (e : Entry A) : Type 0 where
+    pub here : entry_at new slot ≡ Some e
+    pub others : (other : ℕ) → other ≢ slot → entry_at new other ≡ entry_at old other
 
   abbrev pub with_entry_live : Cell → Entry A → Entry A
   with_entry_live live e = record e { live = live }

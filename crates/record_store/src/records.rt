@@ -1,14 +1,12 @@
 //! Records, and how a store keeps them.
 
-ghost use Rattle.std.specs.Prelude.{◌≡◌, ℕ, ◌<◌, ◌≤◌, OnOk, OnErr, IsSome, IfOk, Some, None, false, true, length, slice_set};
+ghost use Rattle.std.specs.Prelude.{◌≡◌, ◌+◌, ◌<◌, ◌≤◌, ◌++◌, ◌∷◌, [], OnOk, OnErr, IsSome, IfOk, Some, None, false, true, length, map, max, slice_set, vec_capacity};
 ghost use Rattle.std.specs.Option.{option_map, option_and_then};
-ghost use Rattle.slab.specs.Slab.{Updates, get, slab_len};
 ghost use Rattle.record_store.specs.DeadKeys.{SameKey, offer_at};
-ghost use Rattle.record_store.specs.Entries.{cleaned, entry_changed, key_if_dead, lent_record, lent_stable, live_of, made, offer_of, seen, stable_in, stable_seen, with_entry_aside, with_entry_live, with_entry_mark, with_entry_stable};
+ghost use Rattle.record_store.specs.Entries.{IsPut, cleaned, entry_at, entry_changed, key_if_dead, lent_record, lent_stable, live_of, made, offer_of, seen, stable_in, stable_seen, taken, with_entry_aside, with_entry_live, with_entry_mark, with_entry_stable};
 
 use crate::dead_keys::DeadKeys;
 use procedure::{Key, NoMemory, Value};
-use slab::Slab;
 use std::alloc::{AllocError, Allocator};
 use std::mem;
 
@@ -44,6 +42,9 @@ pub(crate) struct Entry<A: Allocator> {
     pub(crate) mark: u64,
     pub(crate) aside: bool,
 }
+
+/// A slot: vacant, or with the record in it.
+pub(crate) type Slot<A> = Option<Entry<A>>;
 
 impl<A: Allocator> Entry<A> {
     pub(crate) fn new(key: Key, mark: u64) -> Self
@@ -83,58 +84,58 @@ impl<A: Allocator> Entry<A> {
 
 /// The record of a slot, as it is lent.
 pub(crate) fn lent<A: Allocator>(
-    slots: &Slab<Entry<A>, A>,
+    slots: &[Slot<A>],
     slot: usize,
     number: u64,
 ) -> Option<Record<'_, A>>
-    ensures { option_map lent_record result ≡ option_map (seen number) (get slots.now slot) }
+    ensures { option_map lent_record result ≡ option_map (seen number) (entry_at slots.now slot) }
 {
     match slots.get(slot) {
-        Some(entry) => Some(Record {
+        Some(Some(entry)) => Some(Record {
             key: entry.key,
             live: entry.live.as_ref(),
             stable: entry.stable_version(number),
             available: entry.mark == number,
             aside: entry.aside,
         }),
-        None => None,
+        _ => None,
     }
 }
 
 /// The key that the record of a slot offers for reclaim.
-pub(crate) fn offer_in<A: Allocator>(slots: &Slab<Entry<A>, A>, slot: usize) -> Option<Key>
-    ensures { result ≡ option_and_then offer_of (get slots.now slot) }
+pub(crate) fn offer_in<A: Allocator>(slots: &[Slot<A>], slot: usize) -> Option<Key>
+    ensures { result ≡ option_and_then offer_of (entry_at slots.now slot) }
 {
     match slots.get(slot) {
-        Some(entry) => entry.offer(),
-        None => None,
+        Some(Some(entry)) => entry.offer(),
+        _ => None,
     }
 }
 
 /// The key of a dead record.
-pub(crate) fn dead_key<A: Allocator>(slots: &Slab<Entry<A>, A>, slot: usize) -> Option<Key>
-    ensures { result ≡ option_and_then key_if_dead (get slots.now slot) }
+pub(crate) fn dead_key<A: Allocator>(slots: &[Slot<A>], slot: usize) -> Option<Key>
+    ensures { result ≡ option_and_then key_if_dead (entry_at slots.now slot) }
 {
     match slots.get(slot) {
-        Some(entry) => {
+        Some(Some(entry)) => {
             if entry.live.is_none() {
                 Some(entry.key)
             } else {
                 None
             }
         }
-        None => None,
+        _ => None,
     }
 }
 
 pub(crate) fn copy_of_live<A: Allocator + Clone>(
-    slots: &Slab<Entry<A>, A>,
+    slots: &[Slot<A>],
     slot: usize,
 ) -> Result<Option<Value<A>>, NoMemory>
-    ensures value { IfOk result (λ copy. copy ≡ live_of (get slots.now slot)) }
-    ensures memory { OnErr result (IsSome (live_of (get slots.now slot))) }
+    ensures value { IfOk result (λ copy. copy ≡ live_of (entry_at slots.now slot)) }
+    ensures memory { OnErr result (IsSome (live_of (entry_at slots.now slot))) }
 {
-    let Some(entry) = slots.get(slot) else {
+    let Some(Some(entry)) = slots.get(slot) else {
         return Ok(None);
     };
     match &entry.live {
@@ -143,44 +144,51 @@ pub(crate) fn copy_of_live<A: Allocator + Clone>(
     }
 }
 
-pub(crate) fn set_live<A: Allocator>(
-    slots: &mut Slab<Entry<A>, A>,
-    slot: usize,
-    live: Option<Value<A>>,
-) -> Option<Value<A>>
-    ensures before { result ≡ live_of (get slots.old slot) }
-    ensures changed { slots.new ≡ entry_changed (with_entry_live live) slots.old slot }
+fn replace_live<A: Allocator>(place: &mut Slot<A>, live: Option<Value<A>>) -> Option<Value<A>>
+    ensures before { result ≡ live_of place.old }
+    ensures changed { place.new ≡ option_map (with_entry_live live) place.old }
 {
-    match slots.get_mut(slot) {
+    match place {
         Some(entry) => mem::replace(&mut entry.live, live),
         None => None,
     }
 }
 
+pub(crate) fn set_live<A: Allocator>(
+    slots: &mut Vec<Slot<A>, A>,
+    slot: usize,
+    live: Option<Value<A>>,
+) -> Option<Value<A>>
+    ensures before { result ≡ live_of (entry_at slots.old.items slot) }
+    ensures changed { slots.new.items ≡ entry_changed (with_entry_live live) slots.old.items slot }
+{
+    match slots.get_mut(slot) {
+        Some(place) => replace_live(place, live),
+        None => None,
+    }
+}
+
 pub(crate) fn set_stable<A: Allocator>(
-    slots: &mut Slab<Entry<A>, A>,
+    slots: &mut Vec<Slot<A>, A>,
     slot: usize,
     stable: Option<Value<A>>,
     copied: u64,
 )
-    ensures { slots.new ≡ entry_changed (with_entry_stable stable copied) slots.old slot }
+    ensures { slots.new.items ≡ entry_changed (with_entry_stable stable copied) slots.old.items slot }
 {
-    if let Some(entry) = slots.get_mut(slot) {
+    if let Some(place) = slots.get_mut(slot)
+        && let Some(entry) = place
+    {
         entry.stable = stable;
         entry.copied = copied;
     }
 }
 
-/// The stable version by move, and none is left.
-pub(crate) fn take_stable<A: Allocator>(
-    slots: &mut Slab<Entry<A>, A>,
-    slot: usize,
-    number: u64,
-) -> Stable<Option<Value<A>>>
-    ensures stable { result ≡ stable_in number (get slots.old slot) }
-    ensures changed { slots.new ≡ entry_changed (with_entry_stable None 0) slots.old slot }
+fn take_version<A: Allocator>(place: &mut Slot<A>, number: u64) -> Stable<Option<Value<A>>>
+    ensures stable { result ≡ stable_in number place.old }
+    ensures changed { place.new ≡ option_map (with_entry_stable None 0) place.old }
 {
-    let Some(entry) = slots.get_mut(slot) else {
+    let Some(entry) = place else {
         return Stable::Empty;
     };
     let counts = entry.copied == number;
@@ -193,26 +201,47 @@ pub(crate) fn take_stable<A: Allocator>(
     }
 }
 
-pub(crate) fn set_mark<A: Allocator>(slots: &mut Slab<Entry<A>, A>, slot: usize, mark: u64)
-    ensures { slots.new ≡ entry_changed (with_entry_mark mark) slots.old slot }
+/// The stable version by move, and none is left.
+pub(crate) fn take_stable<A: Allocator>(
+    slots: &mut Vec<Slot<A>, A>,
+    slot: usize,
+    number: u64,
+) -> Stable<Option<Value<A>>>
+    ensures stable { result ≡ stable_in number (entry_at slots.old.items slot) }
+    ensures changed { slots.new.items ≡ entry_changed (with_entry_stable None 0) slots.old.items slot }
 {
-    if let Some(entry) = slots.get_mut(slot) {
+    match slots.get_mut(slot) {
+        Some(place) => take_version(place, number),
+        None => Stable::Empty,
+    }
+}
+
+pub(crate) fn set_mark<A: Allocator>(slots: &mut Vec<Slot<A>, A>, slot: usize, mark: u64)
+    ensures { slots.new.items ≡ entry_changed (with_entry_mark mark) slots.old.items slot }
+{
+    if let Some(place) = slots.get_mut(slot)
+        && let Some(entry) = place
+    {
         entry.mark = mark;
     }
 }
 
-pub(crate) fn set_aside<A: Allocator>(slots: &mut Slab<Entry<A>, A>, slot: usize, aside: bool)
-    ensures { slots.new ≡ entry_changed (with_entry_aside aside) slots.old slot }
+pub(crate) fn set_aside<A: Allocator>(slots: &mut Vec<Slot<A>, A>, slot: usize, aside: bool)
+    ensures { slots.new.items ≡ entry_changed (with_entry_aside aside) slots.old.items slot }
 {
-    if let Some(entry) = slots.get_mut(slot) {
+    if let Some(place) = slots.get_mut(slot)
+        && let Some(entry) = place
+    {
         entry.aside = aside;
     }
 }
 
-fn clean<A: Allocator>(slots: &mut Slab<Entry<A>, A>, slot: usize)
-    ensures { slots.new ≡ entry_changed cleaned slots.old slot }
+fn clean<A: Allocator>(slots: &mut Vec<Slot<A>, A>, slot: usize)
+    ensures { slots.new.items ≡ entry_changed cleaned slots.old.items slot }
 {
-    if let Some(entry) = slots.get_mut(slot) {
+    if let Some(place) = slots.get_mut(slot)
+        && let Some(entry) = place
+    {
         entry.stable = None;
         entry.copied = 0;
         entry.mark = 0;
@@ -220,32 +249,62 @@ fn clean<A: Allocator>(slots: &mut Slab<Entry<A>, A>, slot: usize)
 }
 
 /// No record has a mark or a stable version.
-pub(crate) fn clean_all<A: Allocator>(slots: &mut Slab<Entry<A>, A>, used: usize)
-    requires { (slot : ℕ) → used ≤ slot → get slots.old slot ≡ None }
-    ensures cleaned { (slot : ℕ) → get slots.new slot ≡ option_map cleaned (get slots.old slot) }
-    ensures len { slab_len slots.new ≡ slab_len slots.old }
+pub(crate) fn clean_all<A: Allocator>(slots: &mut Vec<Slot<A>, A>)
+    ensures { slots.new.items ≡ map (option_map cleaned) slots.old.items }
 {
-    for slot in 0..used {
+    for slot in 0..slots.len() {
         clean(slots, slot);
     }
 }
 
-pub(crate) fn remove<A: Allocator>(slots: &mut Slab<Entry<A>, A>, slot: usize)
-    ensures updates { Updates slots.old slots.new slot None }
-    ensures len { slab_len slots.new ≤ slab_len slots.old }
+/// Puts an entry into a slot that is vacant, or is one more.
+pub(crate) fn put<A: Allocator>(
+    slots: &mut Vec<Slot<A>, A>,
+    vacant: &mut Vec<usize, A>,
+    slot: usize,
+    entry: Entry<A>,
+)
+    requires within { slot ≤ length slots.old.items }
+    requires vacant { entry_at slots.old.items slot ≡ None }
+    requires room { slot ≡ length slots.old.items → (slot < vec_capacity slots.old) × (length vacant.old.items < vec_capacity vacant.old) }
+    ensures put { IsPut slots.old.items slots.new.items slot entry }
+    ensures len { length slots.new.items ≡ max (length slots.old.items) (slot + 1) }
+    ensures taken { taken slots.new.items ≡ taken slots.old.items + 1 }
+    ensures known { slot < length slots.old.items → vacant.new.items ≡ vacant.old.items }
+    ensures one_more { slot ≡ length slots.old.items → vacant.new.items ≡ vacant.old.items ++ slot ∷ [] }
 {
-    slots.try_remove(slot);
+    if slot < slots.len() {
+        slots[slot] = Some(entry);
+    } else {
+        slots.push_reserved(Some(entry));
+        vacant.push_reserved(slot);
+    }
+}
+
+/// Makes the slot of a record vacant, and the first of the vacant ones.
+pub(crate) fn vacate<A: Allocator>(
+    slots: &mut Vec<Slot<A>, A>,
+    vacant: &mut Vec<usize, A>,
+    records: &mut usize,
+    slot: usize,
+)
+    requires slot { slot < length slots.old.items }
+    requires records { 0 < records.old }
+    requires room { records.old ≤ length vacant.old.items }
+    ensures slots { slots.new.items ≡ slice_set slots.old.items slot None }
+    ensures records { records.new + 1 ≡ records.old }
+    ensures vacant { vacant.new.items ≡ slice_set vacant.old.items records.new slot }
+{
+    slots[slot] = None;
+    *records -= 1;
+    vacant[*records] = slot;
 }
 
 /// The slot offers what its record does.
-pub(crate) fn renew_offer<A: Allocator>(
-    slots: &Slab<Entry<A>, A>,
-    dead: &mut DeadKeys<A>,
-    slot: usize,
-)
-    requires place { IsSome (get slots.now slot) → slot < length dead.old }
-    requires same { SameKey (offer_at dead.old slot) (option_and_then offer_of (get slots.now slot)) }
-    ensures { dead.new ≡ slice_set dead.old slot (option_and_then offer_of (get slots.now slot)) }
+pub(crate) fn renew_offer<A: Allocator>(slots: &[Slot<A>], dead: &mut DeadKeys<A>, slot: usize)
+    requires place { IsSome (entry_at slots.now slot) → slot < length dead.old }
+    requires same { SameKey (offer_at dead.old slot) (option_and_then offer_of (entry_at slots.now slot)) }
+    ensures { dead.new ≡ slice_set dead.old slot (option_and_then offer_of (entry_at slots.now slot)) }
 {
     let offer = offer_in(slots, slot);
     if offer.is_some() != dead.offers(slot) {

@@ -1,12 +1,11 @@
 //! The store.
 
-ghost use Rattle.std.specs.Prelude.{◌≡◌, ℕ, ◌<◌, ◌≤◌, ◌↔◌, ◌≢◌, [], length, map, IfOk, IfErr, OnOk, OnErr, IsSome, IsTrue, Some, None, Err, ◌+◌, ◌^◌, true, false, nat_eq, max};
+ghost use Rattle.std.specs.Prelude.{◌≡◌, ◌<◌, ◌≤◌, ◌↔◌, ◌+◌, [], length, map, max, IfOk, OnOk, OnErr, IsSome, IsTrue, Some, None, Err, true, false, nat_eq, slice_index_or, vec_capacity};
 ghost use Rattle.std.specs.Option.{option_map};
 ghost use Rattle.std.specs.Cmp.Lexicographic.{pointwise};
-ghost use Rattle.slab.specs.Slab.{HasRoomFor, Updates, get, slab_len};
 ghost use Rattle.indexmap.specs.IndexMap.{spare, Updates as Notes};
 ghost use Rattle.record_store.specs.DeadKeys.{SameOffers};
-ghost use Rattle.record_store.specs.Entries.{lent_record, made};
+ghost use Rattle.record_store.specs.Entries.{lent_record};
 ghost use Rattle.record_store.specs.Fields.{mark_of};
 ghost use Rattle.record_store.specs.Stores.{Finds, IsLeastCandidate, HasKeysOnce, record_at_rest, changed, key_at, live_at, new_record, reclaimed, record_at, records, stable_at, with_available, with_aside, with_copy, with_live, with_record, with_stable};
 ghost use Rattle.record_store.specs.declared.records.Stable.TheVariants.{Empty, Was};
@@ -19,16 +18,15 @@ use crate::dead_keys::DeadKeys;
 use crate::limits::STORE_RECORDS;
 use crate::records;
 use crate::records::{
-    Entry, Record, Stable, clean_all, copy_of_live, dead_key, lent, remove, renew_offer,
+    Entry, Record, Slot, Stable, clean_all, copy_of_live, dead_key, lent, renew_offer, vacate,
 };
 use indexmap::IndexMap;
 use procedure::{Key, NoMemory, Value};
-use slab::Slab;
 use std::alloc::Allocator;
 use std::error::Error;
+use std::fmt;
 use std::hash::{BuildHasherDefault, FoldHasher};
 use std::marker::Model;
-use std::{cmp, fmt};
 
 type Index<A> = IndexMap<Key, usize, BuildHasherDefault<FoldHasher>, A>;
 
@@ -72,10 +70,13 @@ impl From<NoMemory> for CreateError {
 /// take the slot's number; where the slot is vacant they change nothing.
 #[derive(Drop)]
 pub struct Store<A: Allocator> {
-    slots: Slab<Entry<A>, A>,
+    slots: Vec<Slot<A>, A>,
+    records: usize,
+    // From place `records` on, the vacant slots, the one to be used next first. What stands before
+    // says nothing; it keeps a place for each slot, so that a reclaim takes no memory.
+    vacant: Vec<usize, A>,
     index: Index<A>,
     dead: DeadKeys<A>,
-    used: usize,
     number: u64,
 }
 
@@ -97,21 +98,22 @@ impl<A: Allocator + Copy> Store<A> {
         ensures { result ≡ [] }
     {
         Store {
-            slots: Slab::new(alloc),
+            slots: Vec::new(alloc),
+            records: 0,
+            vacant: Vec::new(alloc),
             index: IndexMap::new(alloc),
             dead: DeadKeys::new(alloc),
-            used: 0,
             number: 1,
         }
     }
 }
 
 impl<A: Allocator> Store<A> {
-    /// How many slots were used so far, as one more than the greatest number of any.
+    /// How many slots there are, vacant ones counted.
     pub fn slots(&self) -> usize
         ensures { result ≡ length self.now }
     {
-        self.used
+        self.slots.len()
     }
 
     /// How many records there are, dead ones counted.
@@ -119,7 +121,7 @@ impl<A: Allocator> Store<A> {
         ensures value { result ≡ records self.now }
         ensures most { records self.now ≤ STORE_RECORDS }
     {
-        self.slots.len()
+        self.records
     }
 
     pub fn is_empty(&self) -> bool
@@ -194,7 +196,7 @@ impl<A: Allocator> Store<A> {
         ensures { self.new ≡ map (option_map record_at_rest) self.old }
     {
         if self.number == u64::MAX {
-            clean_all(&mut self.slots, self.used);
+            clean_all(&mut self.slots);
             self.number = 1;
         } else {
             self.number += 1;
@@ -233,7 +235,7 @@ impl<A: Allocator> Store<A> {
         let Some(key) = dead_key(&self.slots, slot) else {
             return;
         };
-        remove(&mut self.slots, slot);
+        vacate(&mut self.slots, &mut self.vacant, &mut self.records, slot);
         self.index.swap_remove(&key);
         renew_offer(&self.slots, &mut self.dead, slot);
     }
@@ -246,57 +248,50 @@ fn mark_of(number: u64, available: bool) -> u64
     if available { number } else { 0 }
 }
 
-/// Makes room for one more record, and tells the slot that it will have.
-fn make_room<A: Allocator + Clone>(
-    slots: &mut Slab<Entry<A>, A>,
-    index: &mut Index<A>,
-    dead: &mut DeadKeys<A>,
-) -> Result<usize, NoMemory>
-    ensures slots { slots.new ≡ record slots.old { capacity = slots.new.capacity } }
-    ensures index { index.new.entries ≡ index.old.entries }
-    ensures dead { SameOffers dead.old dead.new }
-    ensures places { length dead.old ≤ length dead.new }
-    ensures room { OnOk result (HasRoomFor slots.new 1) }
-    ensures spare { OnOk result (0 < spare index.new) }
-    ensures slot { IfOk result (λ slot. slot ≡ slots.new.vacant_key) }
-    ensures place { IfOk result (λ slot. slot < length dead.new) }
-    ensures fits { IfOk result (λ slot. slot + 1 < 2 ^ 64) }
+/// The slot of the next record: the first vacant one, or one more where there is none.
+fn next_slot(vacant: &[usize], records: usize) -> usize
+    ensures { result ≡ slice_index_or vacant.now records (length vacant.now) }
 {
-    slots.reserve(1)?;
-    index.reserve(1)?;
-    let slot = slots.vacant_key();
-    dead.make_place(slot)?;
-    Ok(slot)
-}
-
-/// Puts a new record into the vacant slot, for which there is room.
-fn place<A: Allocator + Clone>(
-    slots: &mut Slab<Entry<A>, A>,
-    index: &mut Index<A>,
-    slot: usize,
-    key: Key,
-    mark: u64,
-)
-    requires slot { slot ≡ slots.old.vacant_key }
-    requires room { HasRoomFor slots.old 1 }
-    requires spare { 0 < spare index.old }
-    ensures vacant { get slots.old slot ≡ None }
-    ensures updates { Updates slots.old slots.new slot (Some (made key mark)) }
-    ensures len { slab_len slots.new ≡ slab_len slots.old + 1 }
-    ensures found { Notes (pointwise nat_eq) index.old index.new key (Some slot) }
-{
-    slots.insert_reserved(Entry::new(key, mark));
-    if index.insert(key, slot).is_err() {
-        unreachable!()
+    match vacant.get(records) {
+        Some(slot) => *slot,
+        None => vacant.len(),
     }
 }
 
-/// One more than the greatest slot used, now that this one is.
-fn raise(used: &mut usize, slot: usize)
-    requires { slot + 1 < 2 ^ 64 }
-    ensures { used.new ≡ max used.old (slot + 1) }
+/// Makes room for a record in the slot, which may be one more.
+fn make_room<A: Allocator + Clone>(
+    slots: &mut Vec<Slot<A>, A>,
+    vacant: &mut Vec<usize, A>,
+    index: &mut Index<A>,
+    dead: &mut DeadKeys<A>,
+    slot: usize,
+) -> Result<(), NoMemory>
+    ensures slots { slots.new.items ≡ slots.old.items }
+    ensures vacant { vacant.new.items ≡ vacant.old.items }
+    ensures index { index.new.entries ≡ index.old.entries }
+    ensures dead { SameOffers dead.old dead.new }
+    ensures places { length dead.old ≤ length dead.new }
+    ensures spare { OnOk result (0 < spare index.new) }
+    ensures place { OnOk result (slot < length dead.new) }
+    ensures room { OnOk result (slot ≡ length slots.old.items → (slot < vec_capacity slots.new) × (length vacant.old.items < vec_capacity vacant.new)) }
 {
-    *used = cmp::max(*used, slot + 1);
+    index.reserve(1)?;
+    dead.make_place(slot)?;
+    if slot == slots.len() {
+        slots.reserve(1)?;
+        vacant.reserve(1)?;
+    }
+    Ok(())
+}
+
+/// The key's record is in this slot from now on. There is room for it.
+fn note_slot<A: Allocator + Clone>(index: &mut Index<A>, key: Key, slot: usize)
+    requires { 0 < spare index.old }
+    ensures { Notes (pointwise nat_eq) index.old index.new key (Some slot) }
+{
+    if index.insert(key, slot).is_err() {
+        unreachable!()
+    }
 }
 
 impl<A: Allocator + Clone> Store<A> {
@@ -306,16 +301,25 @@ impl<A: Allocator + Clone> Store<A> {
         requires absent { Finds self.old key None }
         ensures vacant { IfOk result (λ slot. record_at self.old slot ≡ None) }
         ensures ok { IfOk result (λ slot. self.new ≡ with_record self.old slot (new_record key available)) }
+        ensures slots { OnOk result (length self.new ≡ max (length self.old) (records self.old + 1)) }
         ensures err { OnErr result (self.new ≡ self.old) }
         ensures full { (result ≡ Err TableFull) ↔ (STORE_RECORDS ≤ records self.old) }
     {
-        if self.slots.len() >= STORE_RECORDS {
+        if self.records >= STORE_RECORDS {
             return Err(CreateError::TableFull);
         }
-        let slot = make_room(&mut self.slots, &mut self.index, &mut self.dead)?;
-        let mark = mark_of(self.number, available);
-        place(&mut self.slots, &mut self.index, slot, key, mark);
-        raise(&mut self.used, slot);
+        let slot = next_slot(&self.vacant, self.records);
+        make_room(
+            &mut self.slots,
+            &mut self.vacant,
+            &mut self.index,
+            &mut self.dead,
+            slot,
+        )?;
+        let entry = Entry::new(key, mark_of(self.number, available));
+        records::put(&mut self.slots, &mut self.vacant, slot, entry);
+        note_slot(&mut self.index, key, slot);
+        self.records += 1;
         Ok(slot)
     }
 
