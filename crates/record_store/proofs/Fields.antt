@@ -34,7 +34,7 @@ edited_here g none xs slot =
       | inr past ↦ get_or_past (slice_set xs slot (g (get_or xs slot None))) slot None (omega (arith, length-set xs slot (g (get_or xs slot None)))) ∙ sym (ap g (get_or_past xs slot None past) ∙ none)
     ]
 
-count_edit : {X : Type 0} (f : X → X) (xs : List (Option X)) (slot : ℕ) → count_by is_some (slice_set xs slot (option_map f (get_or xs slot None))) ≡ count_by is_some xs
+pub count_edit : {X : Type 0} (f : X → X) (xs : List (Option X)) (slot : ℕ) → count_by is_some (slice_set xs slot (option_map f (get_or xs slot None))) ≡ count_by is_some xs
 count_edit f [] slot = refl
 count_edit f (None ∷ xs) zero = refl
 count_edit f (Some x ∷ xs) zero = omega (arith, sum_by-cons (λ o. cond (is_some o) 1 0) (Some x) xs, sum_by-cons (λ o. cond (is_some o) 1 0) (Some (f x)) xs)

@@ -2,14 +2,14 @@
 use Rattle.std.proofs.Common.{◌≡◌, ◌≢◌, ℕ, zero, suc, ◌+◌, ◌<◌, ◌≤◌, inl, inr, Bool, true, false, cond, List, [], ◌∷◌, ◌++◌, length, drop, Option, Some, None, is_none, is_some, option_map, refl, sym, ap, ◌∙◌, subst, arith, slice_index_or, slice_set, length-set, get_or-set_same, get_or-set_other, nat_eq, max}
 use Rattle.std.proofs.lemmas.Bool.{cases_eq}
 use Rattle.std.proofs.lemmas.List.{drop-set, drop_all, drop_more, get_or_past, length-append, set-get_or}
-use Rattle.std.proofs.lemmas.List.Sums.{count_by-le-length, sum_by-set}
+use Rattle.std.proofs.lemmas.List.Sums.{count_by-le-length, sum_by-cons, sum_by-set}
 use Rattle.std.specs.Option.{option_and_then}
 use Rattle.std.specs.Cmp.Lexicographic.{pointwise, bytes_decides}
 use Rattle.indexmap.specs.IndexMap.{IndexMap, get as found_at}
 use Rattle.std.specs.Map.{lookup}
 use Rattle.procedure.specs.Bytes.{Bytes}
 use Rattle.record_store.specs.DeadKeys.{SameKey, offer_at}
-use Rattle.record_store.specs.Stores.{StoreRecord, Slots, record_at, with_record, new_record, reclaimed, unless_dead}
+use Rattle.record_store.specs.Stores.{StoreRecord, Slots, record_at, records, with_record, new_record, reclaimed, unless_dead}
 use Rattle.record_store.specs.Entries.{entry_at, key_if_dead, made, offer_of, seen, taken}
 use Rattle.record_store.specs.Fields.{AreVacant, HasNot, slots_of, entry_key, IsMarked, IsStore, mark_of}
 use Rattle.record_store.specs.declared.records.Entry.{Entry}
@@ -39,6 +39,21 @@ at_with_other (x ∷ xs) zero r zero differs = absurd (differs refl)
 at_with_other (x ∷ xs) zero r (suc i) differs = refl
 at_with_other (x ∷ xs) (suc n) r zero differs = refl
 at_with_other (x ∷ xs) (suc n) r (suc i) differs = at_with_other xs n r i (omega arith)
+
+-- a record more in a vacant slot
+pub records-made : (xs : Slots) (n : ℕ) (r : StoreRecord) → record_at xs n ≡ None → records (with_record xs n r) ≡ records xs + 1
+records-made [] zero r none = refl
+records-made [] (suc n) r none = omega (arith, records-made [] n r refl, sum_by-cons (λ (o : Option StoreRecord). cond (is_some o) 1 0) None (with_record [] n r))
+records-made (None ∷ xs) zero r none =
+    omega (arith, sum_by-cons (λ (o : Option StoreRecord). cond (is_some o) 1 0) None xs, sum_by-cons (λ (o : Option StoreRecord). cond (is_some o) 1 0) (Some r) xs)
+records-made (Some x ∷ xs) zero r none = absurd (cc)
+records-made (x ∷ xs) (suc n) r none =
+    omega (
+    arith,
+    records-made xs n r none,
+    sum_by-cons (λ (o : Option StoreRecord). cond (is_some o) 1 0) x xs,
+    sum_by-cons (λ (o : Option StoreRecord). cond (is_some o) 1 0) x (with_record xs n r),
+    )
 
 keys_equal : (x y : Bytes) → pointwise nat_eq x y ≡ true → x ≡ y
 keys_equal x y e = (bytes_decides x y).0 e

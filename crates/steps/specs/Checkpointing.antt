@@ -15,7 +15,7 @@ use Rattle.image.specs.declared.images.Kind.{Kind}
 use Rattle.image.specs.declared.images.Kind.TheVariants.{Full, Partial}
 use Rattle.record_store.specs.ChangedSets.{KeySet, count, has, keys_of}
 use Rattle.record_store.specs.Stores.{record_at_rest, key_at}
-use Rattle.steps.specs.CoreViews.{CoreView, Underway}
+use Rattle.steps.specs.CoreViews.{CoreView, SameKeys, Underway}
 use Rattle.steps.specs.CutImages.{IsCutOf}
 use Rattle.steps.specs.Versions.{given_of, kept_of, versions_in, KeyVersions, captured_at}
 use Rattle.steps.specs.declared.checkpoints.Way.{Way}
@@ -78,7 +78,8 @@ pub record Visits (old new : CoreView) : Type 0 where
           old.checkpoint.given ++ kept_of old.checkpoint.kind (given_of (versions_in old.slots) key);
     };
   }
-  pub slots : (slot : ℕ) → key_at new.slots slot ≡ key_at old.slots slot
+  pub slots : length new.slots ≡ length old.slots
+  pub keys : SameKeys old.slots new.slots
   pub versions : (q : Bytes) → versions_in new.slots q ≡ visited key q (versions_in old.slots q)
 
 abbrev pub CapturesAs : Captured → (old new : CoreView) → Type 0

@@ -14,9 +14,9 @@ use Rattle.image.specs.Images.{Image}
 use Rattle.image.specs.declared.headers.Header.{Header}
 use Rattle.image.specs.declared.images.Kind.{Kind}
 use Rattle.image.specs.Merges.{table_of}
-use Rattle.record_store.specs.Stores.{Slots}
+use Rattle.record_store.specs.Stores.{Slots, key_at}
 use Rattle.record_store.specs.declared.limits.TheConstants.{STORE_RECORDS}
-use Rattle.steps.specs.Versions.{versions_in, undo_of, KeyVersions, found, kept_key, undone_key, wrote_key}
+use Rattle.steps.specs.Versions.{versions_in, undo_of, KeyVersions, found, kept_key, makes_record, slots_with, undone_key, wrote_key}
 use Rattle.steps.specs.declared.checkpoints.Way.{Way}
 use Rattle.steps.specs.declared.step.Stepped.{Stepped}
 use Rattle.steps.specs.declared.step.Stepped.TheVariants.{Ran, Ready}
@@ -115,10 +115,24 @@ OfOpen v s P = (c : Underway) → open_at v s ≡ Some c → P c
 abbrev pub one_more : Underway → Underway
 one_more c = record c { count = suc c.count }
 
+-- each key keeps its slot
+abbrev pub KeysStay : Slots → Slots → Type 0
+KeysStay old new = (slot : ℕ) (key : Bytes) → key_at old slot ≡ Some key → key_at new slot ≡ Some key
+
+-- each slot has the key that it had, or is vacant as it was
+abbrev pub SameKeys : Slots → Slots → Type 0
+SameKeys old new = (slot : ℕ) → key_at new slot ≡ key_at old slot
+
+-- must the next instruction make a record of its key?
+abbrev pub makes_next : CoreView → Underway → Bool
+makes_next v c = makes_record (versions_in v.slots) (touch_next v c) (becomes_next v c)
+
 -- one instruction more of the call: the key that it touches becomes what it makes of it
 pub record Steps (old new : CoreView) (s : ℕ) (c : Underway) : Type 0 where
   pub same : SameBut old new s (Some (one_more c))
   pub log : new.log ≡ old.log
+  pub slots : length new.slots ≡ slots_with (makes_next old c) old.slots
+  pub keys : KeysStay old.slots new.slots
   pub versions : (q : Bytes) → versions_in new.slots q ≡ wrote_key (phase_of old.log) c.start (touch_next old c) (becomes_next old c) (versions_in old.slots) q
 
 -- how a step is answered: whether instructions are left
@@ -130,6 +144,7 @@ pub record GivesUp (old new : CoreView) (s : ℕ) : Type 0 where
   pub same : SameBut old new s None
   pub log : new.log ≡ old.log
   pub slots : length new.slots ≡ length old.slots
+  pub keys : SameKeys old.slots new.slots
   pub versions : OfOpen old s (λ c. (q : Bytes) → versions_in new.slots q ≡ undone_key (replaced old c q) (versions_in old.slots q))
 
 -- what is said in the log of a call that ended
@@ -148,6 +163,7 @@ pub record Finishes (old new : CoreView) (s : ℕ) (c : Underway) : Type 0 where
   pub same : SameBut old new s None
   pub log : new.log ≡ old.log ++ answer_of old s c ∷ []
   pub slots : length new.slots ≡ length old.slots
+  pub keys : SameKeys old.slots new.slots
   pub versions : (q : Bytes) → versions_in new.slots q ≡ settled old c q
 
 -- the answer gives the place of that record, and what it says

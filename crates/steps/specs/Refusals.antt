@@ -2,7 +2,7 @@
 use Rattle.std.specs.Prelude.{◌≡◌, ◌⊎◌, ℕ, ◌==◌, Bool, true, false, not, ◌&&◌, nat_lt, nat_le, List, [], ◌∷◌, length, slice_get, codes, Option, Some, None, is_some, is_none, Ok, Err}
 use Rattle.std.specs.declared.result.Result.{Result}
 use Rattle.std.specs.Option.{option_or}
-use Rattle.procedure.specs.Bytes.{Bytes, Cell}
+use Rattle.procedure.specs.Bytes.{Bytes}
 use Rattle.procedure.specs.Procedures.{Procedure}
 use Rattle.procedure.specs.declared.limits.TheConstants.{SESSIONS, VALUE_BYTES}
 use Rattle.phase.specs.declared.phases.Phase.{Phase}
@@ -10,11 +10,9 @@ use Rattle.phase.specs.declared.phases.Phase.TheVariants.{Rest, Prepare, Resolve
 use Rattle.commitlog.specs.Histories.{last_number, phase_of}
 use Rattle.commitlog.specs.declared.limits.TheConstants as log
 use Rattle.procedure.specs.Runs.{has_ended}
-use Rattle.procedure.specs.Needs.{Touch, Nothing, Reads, Writes}
 use Rattle.record_store.specs.Stores.{Slots, records}
 use Rattle.record_store.specs.declared.limits.TheConstants.{STORE_RECORDS}
-use Rattle.steps.specs.CoreViews.{CheckpointView, CoreView, Underway, any_open, becomes_next, front_of, is_barred, open_at, touch_next}
-use Rattle.steps.specs.Versions.{versions_in, VersionsByKey}
+use Rattle.steps.specs.CoreViews.{CheckpointView, CoreView, Underway, any_open, front_of, is_barred, makes_next, open_at, touch_next}
 use Rattle.steps.specs.declared.checkpoints.Way.{Way}
 use Rattle.steps.specs.declared.checkpoints.Way.TheVariants.{Streamed, Whole}
 use Rattle.steps.specs.declared.errors.AbandonError.{AbandonError}
@@ -97,12 +95,6 @@ step_error_text stepping.Conflict = codes "conflict"
 step_error_text stepping.TableFull = codes "table full"
 step_error_text stepping.NoMemory = codes "no memory"
 
--- must a touch, by which a key becomes this, make a record of the key?
-abbrev pub makes_record : VersionsByKey → Touch → Option Cell → Bool
-makes_record vs Nothing x = false
-makes_record vs (Reads k) x = false
-makes_record vs (Writes k) x = is_some x && is_none (vs k)
-
 abbrev pub is_store_full : Slots → Bool
 is_store_full slots = nat_le STORE_RECORDS (records slots)
 
@@ -111,7 +103,7 @@ unstepped v session None = Some stepping.NotActive
 unstepped v session (Some c) =
     option_or (refused_unless (not (has_ended (front_of v c))) stepping.AlreadyReady)
     (option_or (refused_unless (not (is_barred v session (touch_next v c))) stepping.Conflict)
-    (refused_unless (not (is_store_full v.slots && makes_record (versions_in v.slots) (touch_next v c) (becomes_next v c))) stepping.TableFull))
+    (refused_unless (not (is_store_full v.slots && makes_next v c)) stepping.TableFull))
 
 -- why an instruction isn't executed, want of memory apart
 abbrev pub step_refusal : CoreView → (session : ℕ) → Option StepError

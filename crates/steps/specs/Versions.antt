@@ -1,8 +1,8 @@
 -- The versions of a key: what calls and a scan make of them, and how a key's record and what a core lends tell them.
-use Rattle.std.specs.Prelude.{ℕ, Option, Bool, [], ◌∷◌, Some, None, false, true, cond, if◌then◌else◌, is_some, List}
+use Rattle.std.specs.Prelude.{ℕ, ◌+◌, Option, Bool, [], ◌∷◌, Some, None, false, true, ◌&&◌, cond, if◌then◌else◌, is_none, is_some, length, max, List}
 use Rattle.std.specs.Option.{option_copied, option_map}
 use Rattle.record_store.specs.Entries.{lent_stable}
-use Rattle.record_store.specs.Stores.{Slots, record_at}
+use Rattle.record_store.specs.Stores.{Slots, record_at, records}
 use Rattle.record_store.specs.Versions as stored
 use Rattle.steps.specs.declared.versions.Versions.{Versions as Lent}
 use Rattle.procedure.specs.Bytes.{Cell, Bytes, same}
@@ -80,6 +80,17 @@ abbrev pub found : VersionsByKey → Touch → Cell
 found vs Nothing = None
 found vs (Reads k) = live_version (vs k)
 found vs (Writes k) = live_version (vs k)
+
+-- must a touch, by which a key becomes this, make a record of the key?
+abbrev pub makes_record : VersionsByKey → Touch → Option Cell → Bool
+makes_record vs Nothing x = false
+makes_record vs (Reads k) x = false
+makes_record vs (Writes k) x = is_some x && is_none (vs k)
+
+-- how many slots there are once a record was made, or none was: a vacant slot is used before a new one
+abbrev pub slots_with : (made : Bool) → Slots → ℕ
+slots_with false slots = length slots
+slots_with true slots = max (length slots) (records slots + 1)
 
 -- what commits does to the record of a written key, by the phase in which its call started and the phase of now
 abbrev pub kept : Phase → Phase → KeyVersions → KeyVersions

@@ -1,6 +1,6 @@
 //! How the scan of a checkpoint goes.
 
-ghost use Rattle.std.specs.Prelude.{◌≡◌, ◌≤◌, ◌++◌, ◌+◌, ℕ, IfOk, None, OnErr, OnOk, IsSome, Some, vec_capacity, vec_len};
+ghost use Rattle.std.specs.Prelude.{◌≡◌, ◌≤◌, ◌++◌, ◌+◌, ℕ, IfOk, None, OnErr, OnOk, IsSome, Some, length, vec_capacity, vec_len};
 ghost use Rattle.phase.specs.declared.phases.Phase.TheVariants.{Capture, Resolve};
 ghost use Rattle.procedure.specs.Bytes.{Bytes};
 ghost use Rattle.commitlog.specs.Histories.{phase_of};
@@ -8,6 +8,7 @@ ghost use Rattle.record_store.specs.Stores.{changed, key_at, record_at};
 ghost use Rattle.record_store.specs.Stores as recorded;
 ghost use Rattle.steps.specs.inside.SetAside.{aside_at};
 ghost use Rattle.steps.specs.Checkpointing.{AdvancesTo, CapturesAs, visited};
+ghost use Rattle.steps.specs.CoreViews.{SameKeys};
 ghost use Rattle.steps.specs.inside.RecordEdits.{captured, edited, given_by};
 ghost use Rattle.steps.specs.Versions.{given_of, is_kept, kept_of, versions_in};
 ghost use Rattle.steps.specs.Refusals.{Answers, advance_refusal, capture_refusal};
@@ -106,7 +107,8 @@ fn visit<A: Allocator + Clone>(
     key: Option<Key>,
 ) -> Result<Option<Entry<A>>, NoMemory>
     ensures once { IsSome key → recorded.HasKeysOnce store.old }
-    ensures keys { OnOk result ((slot : ℕ) → key_at store.new slot ≡ key_at store.old slot) }
+    ensures slots { OnOk result (length store.new ≡ length store.old) }
+    ensures keys { OnOk result (SameKeys store.old store.new) }
     ensures aside { OnOk result ((slot : ℕ) → aside_at store.new slot ≡ aside_at store.old slot) }
     ensures versions { OnOk result ((q : Bytes) → versions_in store.new q ≡ visited key q (versions_in store.old q)) }
     ensures given { IfOk result (λ given. given ≡ given_of (versions_in store.old) key) }

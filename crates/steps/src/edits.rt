@@ -1,13 +1,14 @@
 //! What calls do to the records of a store: writes with the copies that a checkpoint needs, and what
 //! becomes of the written keys when their call commits or is undone.
 
-ghost use Rattle.std.specs.Prelude.{◌≡◌, ◌≤◌, ◌↔◌, false, ℕ, cond, IfOk, OnOk, OnErr, IsSome, IsTrue, None, Some, Err, option_copied, true, map, length, is_some, ◌||◌};
+ghost use Rattle.std.specs.Prelude.{◌≡◌, ◌≤◌, ◌↔◌, ◌+◌, false, if◌then◌else◌, cond, IfOk, OnOk, OnErr, IsSome, IsTrue, None, Some, Err, option_copied, true, map, length, is_none, is_some, ◌||◌};
 ghost use Rattle.procedure.specs.Bytes.{Bytes, same};
 ghost use Rattle.record_store.specs.Stores.{HasKeysOnce, changed, live_at, record_at, records};
 ghost use Rattle.record_store.specs.ChangedSets.{has, room};
 ghost use Rattle.record_store.specs.declared.stores.CreateError.TheVariants.{TableFull};
 ghost use Rattle.record_store.specs.declared.limits.TheConstants.{STORE_RECORDS};
-ghost use Rattle.steps.specs.Versions.{copied, is_late, kept, kept_key, live_version, undone_key, wrote, versions_in};
+ghost use Rattle.steps.specs.Versions.{copied, is_late, kept, kept_key, live_version, slots_with, undone_key, wrote, versions_in};
+ghost use Rattle.steps.specs.CoreViews.{SameKeys};
 ghost use Rattle.steps.specs.inside.RecordEdits.{KeepsSlots, available_at, has_stable_at, undone_version, all_kept, all_undone, edited, first_noted, noted_of, written_versions};
 
 use crate::notes::Note;
@@ -113,6 +114,8 @@ pub(crate) fn write_key<A: Allocator + Clone>(
     ensures before { IfOk result (λ before. before ≡ live_version (versions_in store.old key)) }
     ensures ok { OnOk result ((q : Bytes) → versions_in store.new q ≡ cond (same q key) (Some (wrote phase start (versions_in store.old key) live)) (versions_in store.old q)) }
     ensures keys { KeepsSlots store.old store.new }
+    ensures slots { OnOk result (length store.new ≡ slots_with (is_none (versions_in store.old key)) store.old) }
+    ensures records { OnOk result (records store.new ≡ (if is_none (versions_in store.old key) then records store.old + 1 else records store.old)) }
     ensures err { OnErr result (store.new ≡ store.old) }
     ensures full { (result ≡ Err TableFull) ↔ (STORE_RECORDS ≤ records store.old) × (versions_in store.old key ≡ None) }
 {
@@ -180,6 +183,7 @@ fn undo_record<A: Allocator>(store: &mut Store<A>, slot: usize, before: Option<V
 fn undo_note<A: Allocator>(store: &mut Store<A>, note: Note<A>)
     ensures keys { KeepsSlots store.old store.new }
     ensures slots { length store.new ≡ length store.old }
+    ensures same { SameKeys store.old store.new }
     ensures versions { (q : Bytes) → versions_in store.new q ≡ cond (same q note.key) (undone_key (Some note.before) (versions_in store.old note.key)) (versions_in store.old q) }
 {
     match store.find(&note.key) {
@@ -192,6 +196,7 @@ fn undo_note<A: Allocator>(store: &mut Store<A>, note: Note<A>)
 pub(crate) fn undo_all<A: Allocator>(store: &mut Store<A>, mut notes: Vec<Note<A>, A>)
     ensures keys { KeepsSlots store.old store.new }
     ensures slots { length store.new ≡ length store.old }
+    ensures same { SameKeys store.old store.new }
     ensures versions { (q : Bytes) → versions_in store.new q ≡ all_undone (map noted_of notes.items) (versions_in store.old) q }
 {
     while let Some(note) = notes.pop() {
@@ -214,6 +219,7 @@ fn keep_record<A: Allocator>(store: &mut Store<A>, slot: usize, start: Phase, ph
 fn keep_key<A: Allocator>(store: &mut Store<A>, key: &Key, start: Phase, phase: Phase)
     ensures keys { KeepsSlots store.old store.new }
     ensures slots { length store.new ≡ length store.old }
+    ensures same { SameKeys store.old store.new }
     ensures versions { (q : Bytes) → versions_in store.new q ≡ cond (same q key.now) (kept_key start phase (Some None) (versions_in store.old key.now)) (versions_in store.old q) }
 {
     match store.find(key) {
@@ -231,6 +237,7 @@ pub(crate) fn keep_all<A: Allocator>(
 )
     ensures keys { KeepsSlots store.old store.new }
     ensures slots { length store.new ≡ length store.old }
+    ensures same { SameKeys store.old store.new }
     ensures versions { (q : Bytes) → versions_in store.new q ≡ all_kept start phase (map noted_of notes.now) (versions_in store.old) q }
 {
     for note in notes {

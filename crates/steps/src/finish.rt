@@ -11,7 +11,7 @@ ghost use Rattle.record_store.specs.declared.limits.TheConstants as stored;
 ghost use Rattle.steps.specs.inside.RecordEdits.{KeepsSlots, all_kept, all_undone, first_noted, noted_of};
 ghost use Rattle.steps.specs.Versions.{versions_in};
 ghost use Rattle.steps.specs.inside.CoreFields.{notes_at};
-ghost use Rattle.steps.specs.CoreViews.{Finishes, AnswersCall, OfOpen, front_of, open_at};
+ghost use Rattle.steps.specs.CoreViews.{Finishes, AnswersCall, OfOpen, SameKeys, front_of, open_at};
 ghost use Rattle.steps.specs.Refusals.{Answers, finish_refusal};
 ghost use Rattle.steps.specs.declared.errors.FinishError.TheVariants as refused;
 
@@ -98,6 +98,7 @@ fn settle<A: Allocator>(
     ensures frozen { changed.new.frozen ≡ changed.old.frozen }
     ensures keys { KeepsSlots store.old store.new }
     ensures slots { length store.new ≡ length store.old }
+    ensures same { SameKeys store.old store.new }
     ensures most { records store.new ≤ stored.STORE_RECORDS }
 {
     if outcome == COMMITTED {
@@ -131,6 +132,7 @@ fn end_call<A: Allocator>(
     ensures frozen { changed.new.frozen ≡ changed.old.frozen }
     ensures keys { KeepsSlots store.old store.new }
     ensures slots { length store.new ≡ length store.old }
+    ensures same { SameKeys store.old store.new }
     ensures most { records store.new ≤ stored.STORE_RECORDS }
 {
     let OpenCall {

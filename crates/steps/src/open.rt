@@ -1,13 +1,13 @@
 //! How a core is opened from an image.
 
-ghost use Rattle.std.specs.Prelude.{◌≡◌, ◌≤◌, ◌↔◌, [], ℕ, IfOk, OnOk, IsTrue, None, Some, replicate};
+ghost use Rattle.std.specs.Prelude.{◌≡◌, ◌+◌, [], IfOk, OnOk, IsTrue, None, if◌then◌else◌, is_none, length, replicate};
 ghost use Rattle.std.specs.FinMap as map;
 ghost use Rattle.procedure.specs.Bytes.{Bytes};
-ghost use Rattle.procedure.specs.Table.{value_at};
 ghost use Rattle.procedure.specs.declared.limits.TheConstants.{SESSIONS};
-ghost use Rattle.image.specs.Merges.{table_of};
+ghost use Rattle.image.specs.Images.{Rises};
 ghost use Rattle.image.specs.Openings.{is_opening};
-ghost use Rattle.steps.specs.Versions.{versions_in, opened_versions};
+ghost use Rattle.record_store.specs.Stores.{records};
+ghost use Rattle.steps.specs.Versions.{slots_with, versions_in};
 ghost use Rattle.steps.specs.inside.RecordEdits.{opened_with, with_opened};
 ghost use Rattle.steps.specs.Openings.{IsOpened};
 ghost use Rattle.steps.specs.Refusals.{Answers, refused_unless};
@@ -30,7 +30,9 @@ use std::alloc::Allocator;
 
 /// A record for an entry, or another live version for the record that its key has.
 fn fill_entry<A: Allocator + Clone>(store: &mut Store<A>, entry: &Entry<A>) -> Result<(), NoMemory>
-    ensures { OnOk result ((q : Bytes) → versions_in store.new q ≡ with_opened (versions_in store.old) entry.now q) }
+    ensures versions { OnOk result ((q : Bytes) → versions_in store.new q ≡ with_opened (versions_in store.old) entry.now q) }
+    ensures slots { OnOk result (length store.new ≡ slots_with (is_none (versions_in store.old entry.now.0)) store.old) }
+    ensures records { OnOk result (records store.new ≡ (if is_none (versions_in store.old entry.now.0) then records store.old + 1 else records store.old)) }
 {
     let cell = entry.cell.clone()?;
     match write_key(store, entry.key, Phase::Rest, Phase::Rest, cell) {
@@ -38,16 +40,6 @@ fn fill_entry<A: Allocator + Clone>(store: &mut Store<A>, entry: &Entry<A>) -> R
         // There is a place for a record of each entry of an image.
         Err(_) => Err(NoMemory),
     }
-}
-
-/// Records for the entries.
-fn fill<A: Allocator + Clone>(store: &mut Store<A>, entries: &[Entry<A>]) -> Result<(), NoMemory>
-    ensures { OnOk result ((q : Bytes) → versions_in store.new q ≡ opened_with (versions_in store.old) entries.now q) }
-{
-    for entry in entries {
-        fill_entry(store, entry)?;
-    }
-    Ok(())
 }
 
 /// Nothing for each session.
@@ -70,12 +62,16 @@ struct Parts<A: Allocator> {
     last: Numbers<A>,
 }
 
-/// A store of these entries.
+/// A store with a record for each of these entries, and no vacant slot.
 fn filled<A: Allocator + Copy>(alloc: A, entries: &[Entry<A>]) -> Result<Store<A>, NoMemory>
-    ensures { IfOk result (λ s. (q : Bytes) → versions_in s q ≡ opened_with (versions_in []) entries.now q) }
+    requires { Rises entries.now }
+    ensures versions { IfOk result (λ s. (q : Bytes) → versions_in s q ≡ opened_with (versions_in []) entries.now q) }
+    ensures slots { IfOk result (λ s. length s ≡ length entries.now) }
 {
     let mut store = Store::new(alloc);
-    fill(&mut store, entries)?;
+    for entry in entries {
+        fill_entry(&mut store, entry)?;
+    }
     Ok(store)
 }
 
@@ -97,6 +93,8 @@ fn free_sessions<A: Allocator + Copy>(alloc: A) -> Result<(Calls<A>, Numbers<A>)
 
 /// A store of these entries, no lock, and no call of any session.
 fn parts_of<A: Allocator + Copy>(alloc: A, entries: &[Entry<A>]) -> Result<Parts<A>, NoMemory>
+    requires { Rises entries.now }
+    ensures slots { IfOk result (λ p. length p.store ≡ length entries.now) }
     ensures store { IfOk result (λ p. (q : Bytes) → versions_in p.store q ≡ opened_with (versions_in []) entries.now q) }
     ensures locks { IfOk result (λ p. p.locks ≡ replicate SESSIONS map.empty) }
     ensures calls { IfOk result (λ p. p.calls.items ≡ replicate SESSIONS None) }
@@ -121,6 +119,7 @@ fn core_of<A: Allocator + Copy>(
     parts: Parts<A>,
 ) -> Core<A>
     requires opening { IsTrue (is_opening opening) }
+    requires slots { length parts.store ≡ length opening.entries }
     requires store { (q : Bytes) → versions_in parts.store q ≡ opened_with (versions_in []) opening.entries q }
     requires locks { parts.locks ≡ replicate SESSIONS map.empty }
     requires calls { parts.calls.items ≡ replicate SESSIONS None }

@@ -6,10 +6,10 @@ ghost use Rattle.procedure.specs.Runs.{ended, is_nil, next_need};
 ghost use Rattle.procedure.specs.declared.limits.TheConstants.{INSTRUCTIONS, SESSIONS};
 ghost use Rattle.steps.specs.inside.Instructions.{Advances, SameOpen, becomes_in, lacks_place, touch_by, touch_in};
 ghost use Rattle.steps.specs.CoreViews.{OfOpen, Steps, front_of, one_more, stepped_as};
-ghost use Rattle.steps.specs.Versions.{versions_in};
+ghost use Rattle.steps.specs.Versions.{makes_record, versions_in};
 ghost use Rattle.steps.specs.inside.InstructionLocks.{AnswersTo, IsExcluded, SameLocks, mode_of_touch, held_so, locked, short};
 ghost use Rattle.locktable.specs.Modes.{IsAtMost};
-ghost use Rattle.steps.specs.Refusals.{Answers, makes_record, step_refusal};
+ghost use Rattle.steps.specs.Refusals.{Answers, step_refusal};
 ghost use Rattle.steps.specs.declared.errors.StepError.TheVariants as refused;
 
 use crate::calls::{OpenCall, outcome_of, taken};

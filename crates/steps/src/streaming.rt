@@ -1,6 +1,6 @@
 //! How the scan of a streamed checkpoint sends its entries.
 
-ghost use Rattle.std.specs.Prelude.{◌≡◌, ◌≤◌, ◌+◌, ℕ, IfErr, IsSome, OnErr, OnOk, Some, IfOk, true};
+ghost use Rattle.std.specs.Prelude.{◌≡◌, ◌≤◌, ◌+◌, ℕ, IfErr, IsSome, OnErr, OnOk, Some, IfOk, length, true};
 ghost use Rattle.procedure.specs.Bytes.{Bytes};
 ghost use Rattle.image.specs.declared.limits.TheConstants.{ENTRIES};
 ghost use Rattle.pipe.specs.Rings.{SameTap, room};
@@ -10,6 +10,7 @@ ghost use Rattle.steps.specs.inside.SetAside.{aside_at};
 ghost use Rattle.steps.specs.inside.RecordEdits.{available_at, captured, edited, given_by};
 ghost use Rattle.steps.specs.inside.Sends.{IsRefused, IsSent, SendsNothing};
 ghost use Rattle.steps.specs.Checkpointing.{CapturesAs, visited};
+ghost use Rattle.steps.specs.CoreViews.{SameKeys};
 ghost use Rattle.steps.specs.Streaming.{AnswersTo, GivesOne, MayBeFull, SendsGiven};
 ghost use Rattle.steps.specs.Versions.{given_of, kept_of, versions_in};
 
@@ -142,7 +143,8 @@ fn send_key<A: Allocator + Clone>(
 ) -> Result<(), CaptureToError>
     requires few { tally.old.count ≤ ENTRIES }
     ensures once { IsSome key → recorded.HasKeysOnce store.old }
-    ensures keys { OnOk result ((slot : ℕ) → key_at store.new slot ≡ key_at store.old slot) }
+    ensures slots { OnOk result (length store.new ≡ length store.old) }
+    ensures keys { OnOk result (SameKeys store.old store.new) }
     ensures aside { OnOk result ((slot : ℕ) → aside_at store.new slot ≡ aside_at store.old slot) }
     ensures versions { OnOk result ((q : Bytes) → versions_in store.new q ≡ visited key q (versions_in store.old q)) }
     ensures err { OnErr result (store.new ≡ store.old) }

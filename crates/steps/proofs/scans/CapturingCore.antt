@@ -15,13 +15,13 @@ use Rattle.image.specs.Merges.{is_full, table_of}
 use Rattle.image.specs.declared.images.Kind.{Kind}
 use Rattle.image.specs.declared.images.Kind.TheVariants.{Full, Partial}
 use Rattle.record_store.specs.ChangedSets.{has}
-use Rattle.record_store.specs.Stores.{HasKeysOnce, Slots, key_at}
+use Rattle.record_store.specs.Stores.{HasKeysOnce, Slots}
 use Rattle.steps.proofs.reclaim.SetAside.{aside_kept}
 use Rattle.steps.specs.inside.SetAside.{aside_at}
 use Rattle.steps.specs.machine.NewestFirst.{at, before}
 use Rattle.steps.specs.Checkpointing.{AdvancesTo, CapturesAs, EndsAt, VisitsNext, entered, visited}
 use Rattle.steps.specs.inside.CoreFields.{IsCore, view_of, either}
-use Rattle.steps.specs.CoreViews.{CoreView}
+use Rattle.steps.specs.CoreViews.{CoreView, SameKeys}
 use Rattle.steps.specs.inside.RecordEdits.{KeepsSlots}
 use Rattle.steps.specs.Versions.{given_at, given_of, kept_of, versions_in, KeyVersions, VersionsByKey, gives}
 use Rattle.steps.specs.machine.Invariant.{ScanKeeps, ScanKeepsIn}
@@ -170,7 +170,8 @@ module _ {A : Type 0} (c : Inside A) (ok : IsCore c) (store : Slots) (kept : Vec
     pub left : c.checkpoint.cursor ≢ c.checkpoint.bound
     pub key_is : key ≡ spot c.checkpoint.cursor
     pub once : IsSome key → HasKeysOnce c.store
-    pub keys : (slot : ℕ) → key_at store slot ≡ key_at c.store slot
+    pub slots : length store ≡ length c.store
+    pub keys : SameKeys c.store store
     pub aside : (slot : ℕ) → aside_at store slot ≡ aside_at c.store slot
     pub versions : (q : Bytes) → versions_in store q ≡ visited key q (versions_in c.store q)
     pub given_is : given.entries ≡ c.checkpoint.given.entries ++ new_entries
@@ -182,15 +183,16 @@ module _ {A : Type 0} (c : Inside A) (ok : IsCore c) (store : Slots) (kept : Vec
   pub visit_by :
       (roomy : List (Bytes × Cell)) (held : Option (Bytes × Cell)) → c.checkpoint.way ≡ Whole → c.phase ≡ Capture → c.checkpoint.cursor ≢ c.checkpoint.bound → key ≡ spot c.checkpoint.cursor →
       (IsSome key → HasKeysOnce c.store) →
-      ((slot : ℕ) → key_at store slot ≡ key_at c.store slot) → ((slot : ℕ) → aside_at store slot ≡ aside_at c.store slot) →
+      length store ≡ length c.store → SameKeys c.store store → ((slot : ℕ) → aside_at store slot ≡ aside_at c.store slot) →
       ((q : Bytes) → versions_in store q ≡ visited key q (versions_in c.store q)) →
       kept.items ≡ roomy ++ kept_of c.checkpoint.kind held → given.entries ≡ c.checkpoint.given.entries ++ kept_of c.checkpoint.kind held → roomy ≡ c.checkpoint.captured.items →
       held ≡ given_of (versions_in c.store) key → IsVisit
-  visit_by roomy held whole phase left key_is once keys aside versions kept_is given_is same_items held_is = record {
+  visit_by roomy held whole phase left key_is once slots keys aside versions kept_is given_is same_items held_is = record {
     phase = phase;
     left = left;
     key_is = key_is;
     once = once;
+    slots = slots;
     keys = keys;
     aside = aside;
     versions = versions;
@@ -205,14 +207,15 @@ module _ {A : Type 0} (c : Inside A) (ok : IsCore c) (store : Slots) (kept : Vec
   pub visit_to :
       {tap after : Tap A} → c.checkpoint.way ≡ Streamed → c.phase ≡ Capture → c.checkpoint.cursor ≢ c.checkpoint.bound → key ≡ spot c.checkpoint.cursor →
       (IsSome key → HasKeysOnce c.store) →
-      ((slot : ℕ) → key_at store slot ≡ key_at c.store slot) → ((slot : ℕ) → aside_at store slot ≡ aside_at c.store slot) →
+      length store ≡ length c.store → SameKeys c.store store → ((slot : ℕ) → aside_at store slot ≡ aside_at c.store slot) →
       ((q : Bytes) → versions_in store q ≡ visited key q (versions_in c.store q)) →
       IsSent new_entries tap after c.checkpoint.given given c.checkpoint.tally tally → IsVisit
-  visit_to streamed phase left key_is once keys aside versions sent = record {
+  visit_to streamed phase left key_is once slots keys aside versions sent = record {
     phase = phase;
     left = left;
     key_is = key_is;
     once = once;
+    slots = slots;
     keys = keys;
     aside = aside;
     versions = versions;
@@ -341,7 +344,8 @@ module _ {A : Type 0} (c : Inside A) (ok : IsCore c) (store : Slots) (kept : Vec
           rest =
               ap (λ n. record (view_of c) { slots = store; checkpoint = record (view_of c).checkpoint { cursor = n; given = given.entries } }) one
               ∙ ap (λ l. record (view_of c) { slots = store; checkpoint = record (view_of c).checkpoint { cursor = suc c.checkpoint.cursor; given = l } }) is.given_is;
-          slots = is.keys;
+          slots = is.slots;
+          keys = is.keys;
           versions = is.versions;
         }
       where

@@ -29,7 +29,7 @@ use Rattle.record_store.specs.declared.limits.TheConstants as stored
 use Rattle.steps.proofs.reclaim.SetAside.{aside_released}
 use Rattle.steps.specs.inside.SetAside.{AsideIn, after_release}
 use Rattle.steps.specs.inside.CoreFields.{IsCore, IsOpen, SameCall, call_at, underway, view_of, either}
-use Rattle.steps.specs.CoreViews.{CoreView, IsSmall, Underway, OfOpen, Finishes, front_of, open_at, replaced, table_now}
+use Rattle.steps.specs.CoreViews.{CoreView, IsSmall, SameKeys, Underway, OfOpen, Finishes, front_of, open_at, replaced, table_now}
 use Rattle.steps.specs.machine.NewestFirst.{before}
 use Rattle.steps.specs.inside.RecordEdits.{KeepsSlots, all_kept, all_undone, first_noted, noted_of}
 use Rattle.steps.specs.Versions.{versions_in, undo_of, KeyVersions, VersionsByKey, kept_key, undone_key}
@@ -266,8 +266,8 @@ module _ {A : Type 0} (c : Inside A) (ok : IsCore c) (s : ℕ) (call : OpenCall 
             ∙ ap (λ b. b || has c.changed.collecting q) (sym (some_by (change_at opened.0.machine.changes q) (value_at (now ok.world) q)) ∙ ap is_some (sym (noted_as q))) ∙ sym (gathered_by q true e))
         by false e = ended_core (abort ok.world s opened.0).versions ok.world.collecting (aborts_here e) (aborted_versions e) (λ q. ok.stands.collecting q ∙ sym (gathered_by q false e))
 
-    pub finish_view : length store ≡ length c.store → (v : CoreView) → view_of c ≡ v → OfOpen v s (Finishes v (view_of (after_answer log store locks changed calls active last aside)) s)
-    finish_view slots v same u there =
+    pub finish_view : length store ≡ length c.store → SameKeys c.store store → (v : CoreView) → view_of c ≡ v → OfOpen v s (Finishes v (view_of (after_answer log store locks changed calls active last aside)) s)
+    finish_view slots keys v same u there =
         let which : underway call ≡ u = is_under c ok s call is calls store locks active aside u (ap (λ (w : CoreView). open_at w s) same ∙ there) in
         subst (λ (w : CoreView). Finishes w (view_of (after_answer log store locks changed calls active last aside)) s u) same
         (subst (λ (x : Underway). Finishes (view_of c) (view_of (after_answer log store locks changed calls active last aside)) s x) which
@@ -276,6 +276,7 @@ module _ {A : Type 0} (c : Inside A) (ok : IsCore c) (s : ℕ) (call : OpenCall 
           log = log_is ∙ ap (λ (n : ℕ). c.log.records ++ Call s call.number call.procedure call.machine.args n call.machine.progress.replies ∷ []) outcome
               ∙ ap (λ (p : Progress). c.log.records ++ Call s call.number call.procedure call.machine.args p.outcome p.replies ∷ []) progress_here;
           slots = slots;
+          keys = keys;
           versions = λ q.
               versions q
               ∙ ap

@@ -13,7 +13,7 @@ use Rattle.record_store.specs.Stores.{Slots}
 use Rattle.steps.proofs.reclaim.SetAside.{aside_released}
 use Rattle.steps.specs.inside.SetAside.{AsideIn, after_release}
 use Rattle.steps.specs.inside.CoreFields.{IsCore, IsOpen, SameCall, call_at, mode_held, start_of, underway, view_of, either}
-use Rattle.steps.specs.CoreViews.{CoreView, Underway, GivesUp, front_of, table_now, open_at, replaced}
+use Rattle.steps.specs.CoreViews.{CoreView, SameKeys, Underway, GivesUp, front_of, table_now, open_at, replaced}
 use Rattle.steps.specs.machine.NewestFirst.{before}
 use Rattle.steps.specs.inside.RecordEdits.{KeepsSlots, all_undone, first_noted, noted_of}
 use Rattle.steps.specs.Versions.{versions_in, undo_of, undone_key}
@@ -127,13 +127,14 @@ module _ {A : Type 0} (c : Inside A) (ok : IsCore c) (s : ℕ) where
 
     pub give_up_view :
         (v : CoreView) → view_of c ≡ v → calls.items ≡ slice_set c.calls.items s None → ((q : Bytes) → versions_in store q ≡ all_undone (map noted_of call.notes.items) (versions_in c.store) q) →
-        length store ≡ length c.store → GivesUp v (view_of (gave_up calls store locks active aside)) s
-    give_up_view v same e versions slots =
+        length store ≡ length c.store → SameKeys c.store store → GivesUp v (view_of (gave_up calls store locks active aside)) s
+    give_up_view v same e versions slots keys =
         subst (λ (w : CoreView). GivesUp w (view_of (gave_up calls store locks active aside)) s) same
         (record {
           same = record { catalog = refl; opening = refl; checkpoint = refl; calls = ap (map (option_map underway)) e ∙ map-set (option_map underway) c.calls.items s None };
           log = refl;
           slots = slots;
+          keys = keys;
           versions = λ u there q. versions q ∙ ap (λ x. undone_key x (versions_in c.store q)) (notes_are q ∙ ap (λ w. replaced (view_of c) w q) (is_under u there));
         })
 

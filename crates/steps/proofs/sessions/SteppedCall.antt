@@ -26,9 +26,9 @@ use Rattle.steps.specs.machine.NewestFirst.{before}
 use Rattle.steps.specs.inside.CoreFields.{IsCore, IsOpen, SameCall, call_at, mode_held, mode_by, start_of, underway, view_of, either}
 use Rattle.steps.specs.CoreViews.{CoreView, OfOpen, Steps, Underway, becomes_next, front_of, is_barred, one_more, open_at, stepped_as, table_now, touch_next}
 use Rattle.steps.specs.inside.RecordEdits.{first_noted, noted_of}
-use Rattle.steps.specs.Versions.{versions_in, found, wrote_key}
+use Rattle.steps.specs.Versions.{versions_in, found, makes_record, slots_with, wrote_key}
 use Rattle.steps.specs.inside.InstructionLocks.{AnswersTo, IsExcluded, SameLocks, grant, locked}
-use Rattle.steps.specs.Refusals.{Answers, is_store_full, makes_record, step_refusal, refused_unless, unstepped}
+use Rattle.steps.specs.Refusals.{Answers, is_store_full, step_refusal, refused_unless, unstepped}
 use Rattle.steps.specs.machine.Machine.{MayStep, NoConflict, Open, Steps as Goes_on, more, noted, put, step, stepped}
 use Rattle.steps.specs.declared.calls.OpenCall.{OpenCall}
 use Rattle.steps.specs.declared.cores.Core.TheInside.{Inside}
@@ -369,6 +369,10 @@ module _ {A : Type 0} (c : Inside A) (ok : IsCore c) (s : ℕ) (call : OpenCall 
                 ap (λ y. slice_set v.calls s (Some y)) next_shown;
           };
           log = refl;
+          slots = advances.on.slots
+              ∙ ap (λ n. slots_with (makes_record (versions_in c.store) n (becomes_in c.store call.machine)) c.store) (sym shown_touch)
+              ∙ ap (λ y. slots_with (makes_record (versions_in c.store) (touch_next v u) y) c.store) (sym shown_becomes);
+          keys = advances.on.keys.keys;
           versions = λ q.
               advances.on.versions q
               ∙ ap (λ p. wrote_key p call.start (touch_in call.machine) (becomes_in c.store call.machine) (versions_in c.store) q) (phase_is c ok)

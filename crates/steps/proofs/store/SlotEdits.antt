@@ -13,6 +13,7 @@ use Rattle.record_store.proofs.Making.{at_with_other}
 use Rattle.record_store.specs.ChangedSets.{KeySet}
 use Rattle.record_store.specs.Stores.{StoreRecord, Slots, record_at_rest, changed, key_at, record_at, with_aside, with_record}
 use Rattle.record_store.specs.Versions.{KeepsKey}
+use Rattle.steps.specs.CoreViews.{SameKeys}
 use Rattle.steps.specs.inside.SetAside.{aside_at, is_aside}
 use Rattle.steps.specs.machine.NewestFirst.{MachineImage}
 use Rattle.steps.specs.inside.RecordEdits.{KeepsSlots}
@@ -37,16 +38,20 @@ same_aside : (f : StoreRecord → StoreRecord) → KeepsAside f → (o : Option 
 same_aside f keeps None is = is
 same_aside f keeps (Some r) is = keeps r is
 
-keys_changed : (f : StoreRecord → StoreRecord) → KeepsKey f → (slots : Slots) (i j : ℕ) (key : Bytes) → key_at slots j ≡ Some key → key_at (changed f slots i) j ≡ Some key
-keys_changed f keeps slots i j key is =
+-- each slot has the key that it had
+pub keys_same : (f : StoreRecord → StoreRecord) → KeepsKey f → (slots : Slots) (i : ℕ) → SameKeys slots (changed f slots i)
+keys_same f keeps slots i j =
     elim (cases_eq j i) [
       | inl e ↦
           ap (key_at (changed f slots i)) e
           ∙ ap (option_map (λ (r : StoreRecord). r.key)) (edited_here (option_map f) refl slots i)
           ∙ same_key f keeps (record_at slots i)
-          ∙ ap (key_at slots) (sym e) ∙ is
-      | inr differs ↦ ap (option_map (λ (r : StoreRecord). r.key)) (get_or-set_other slots i j (option_map f (record_at slots i)) None differs) ∙ is
+          ∙ ap (key_at slots) (sym e)
+      | inr differs ↦ ap (option_map (λ (r : StoreRecord). r.key)) (get_or-set_other slots i j (option_map f (record_at slots i)) None differs)
     ]
+
+keys_changed : (f : StoreRecord → StoreRecord) → KeepsKey f → (slots : Slots) (i j : ℕ) (key : Bytes) → key_at slots j ≡ Some key → key_at (changed f slots i) j ≡ Some key
+keys_changed f keeps slots i j key is = keys_same f keeps slots i j ∙ is
 
 -- a change of the record in a slot
 pub slots_changed : (f : StoreRecord → StoreRecord) → KeepsKey f → KeepsAside f → (slots : Slots) (i : ℕ) → KeepsSlots slots (changed f slots i)

@@ -60,22 +60,38 @@ same_is : (q k : Bytes) → same q k ≡ eq_by_cmp by_bytes q k
 unfolding same
 same_is q k = refl
 
--- entries whose keys rise, over versions that have none of these keys
-opened_as :
-    (vs : VersionsByKey) (es : List Entry) → T (is_sorted by_bytes es) → ((q : Bytes) → IsSome (find by_bytes q es) → vs q ≡ None) → (q : Bytes) →
-    opened_with vs es q ≡ found_or (find by_bytes q es) (vs q)
-opened_as vs [] rises absent q = refl
-opened_as vs (x ∷ es) rises lacks q =
+-- none of the entries' keys has a version
+abbrev pub Lacks : VersionsByKey → List Entry → Type 0
+Lacks vs es = (q : Bytes) → IsSome (find by_bytes q es) → vs q ≡ None
+
+pub lacks_same : (vs us : VersionsByKey) (es : List Entry) → ((q : Bytes) → us q ≡ vs q) → Lacks vs es → Lacks us es
+lacks_same vs us es same lacks q some = same q ∙ lacks q some
+
+pub lacks_first : (vs : VersionsByKey) (x : Entry) (es : List Entry) → Lacks vs (x ∷ es) → vs x.0 ≡ None
+lacks_first vs x es lacks = lacks x.0 (subst (λ b. IsSome (cond b (Some x.1) (find by_bytes x.0 es))) (sym (sym (same_is x.0 x.0) ∙ same_refl x.0)) refl)
+
+pub rises_after : (x : Entry) (es : List Entry) → T (is_sorted by_bytes (x ∷ es)) → T (is_sorted by_bytes es)
+rises_after x es rises = (parts (below_all by_bytes x.0 es) (is_sorted by_bytes es) rises).1
+
+-- the first one's key doesn't come again
+pub lacks_after : (vs : VersionsByKey) (x : Entry) (es : List Entry) → T (is_sorted by_bytes (x ∷ es)) → Lacks vs (x ∷ es) → Lacks (with_opened vs x) es
+lacks_after vs x es rises lacks k some =
     let (below, rest) = parts (below_all by_bytes x.0 es) (is_sorted by_bytes es) rises in
-    let before : vs x.0 ≡ None = lacks x.0 (subst (λ b. IsSome (cond b (Some x.1) (find by_bytes x.0 es))) (sym (sym (same_is x.0 x.0) ∙ same_refl x.0)) refl) in
-    let absent : find by_bytes x.0 es ≡ None = find_below x.0 es below in
-    opened_as (with_opened vs x) es rest
-    (λ k some. elim (keys k x.0) [
-      | inl e ↦ let no_one : IsSome {T = Cell} None = subst (λ o. IsSome o) (ap (λ z. find by_bytes z es) e ∙ absent) some in absurd (cc)
+    elim (keys k x.0) [
+      | inl e ↦ let no_one : IsSome {T = Cell} None = subst (λ o. IsSome o) (ap (λ z. find by_bytes z es) e ∙ find_below x.0 es below) some in absurd (cc)
       | inr f ↦
           ap (λ b. cond b (Some (wrote Rest Rest (vs x.0) x.1)) (vs k)) f
           ∙ lacks k (subst (λ b. IsSome (cond b (Some x.1) (find by_bytes k es))) (sym (sym (same_is k x.0) ∙ f)) some)
-    ]) q
+    ]
+
+-- entries whose keys rise, over versions that have none of these keys
+opened_as : (vs : VersionsByKey) (es : List Entry) → T (is_sorted by_bytes es) → Lacks vs es → (q : Bytes) → opened_with vs es q ≡ found_or (find by_bytes q es) (vs q)
+opened_as vs [] rises absent q = refl
+opened_as vs (x ∷ es) rises lacks q =
+    let (below, rest) = parts (below_all by_bytes x.0 es) (is_sorted by_bytes es) rises in
+    let before = lacks_first vs x es lacks in
+    let absent : find by_bytes x.0 es ≡ None = find_below x.0 es below in
+    opened_as (with_opened vs x) es rest (lacks_after vs x es rises lacks) q
     ∙ elim (keys q x.0) [
       | inl e ↦
           let yes : same q x.0 ≡ true = ap (λ z. same z x.0) e ∙ same_refl x.0 in
@@ -205,13 +221,14 @@ module _ {A : Type 0} (c : Inside A) (lawful : catalog_fault c.catalog ≡ None)
     aside = subst (λ a. AsideIn a c.store (either c.changed) c.locks) (sym aside) (λ slot key there so. tt);
   }
 
-  pub opened_view : IsOpened c.catalog c.opening (view_of c)
-  opened_view = record {
+  pub opened_view : length c.store ≡ length c.opening.entries → IsOpened c.catalog c.opening (view_of c)
+  opened_view slots = record {
     catalog = refl;
     opening = refl;
     log = log;
     checkpoint = checkpoint;
     calls = ap (map (option_map (underway {A = A}))) calls ∙ map-replicate (option_map (underway {A = A})) SESSIONS None;
+    slots = slots;
     versions = versions;
   }
 

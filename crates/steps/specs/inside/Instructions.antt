@@ -1,5 +1,5 @@
 -- One instruction of an open call, as it is kept.
-use Rattle.std.specs.Prelude.{◌≡◌, ◌+◌, Bool, ◌&&◌, cond, map, Option, Some}
+use Rattle.std.specs.Prelude.{◌≡◌, ◌+◌, Bool, ◌&&◌, cond, is_none, length, map, Option, Some}
 use Rattle.procedure.specs.Bytes.{Bytes, Cell, same}
 use Rattle.procedure.specs.Needs.{Touch, Nothing, Reads, Writes, becomes_of, touch_of}
 use Rattle.procedure.specs.declared.needs.Access.{Access}
@@ -8,8 +8,8 @@ use Rattle.procedure.specs.Runs.{Execution, advanced, next_need}
 use Rattle.phase.specs.declared.phases.Phase.{Phase}
 use Rattle.record_store.specs.Stores.{Slots}
 use Rattle.steps.specs.inside.RecordEdits.{KeepsSlots, first_noted, noted_of}
-use Rattle.steps.specs.Versions.{versions_in, found, live_version, wrote, wrote_key}
-use Rattle.steps.specs.Refusals.{is_store_full, makes_record}
+use Rattle.steps.specs.Versions.{versions_in, found, live_version, makes_record, slots_with, wrote, wrote_key}
+use Rattle.steps.specs.Refusals.{is_store_full}
 use Rattle.steps.specs.machine.Machine.{note, noted}
 use Rattle.steps.specs.declared.calls.OpenCall.{OpenCall}
 
@@ -59,6 +59,7 @@ module _ {A : Type 0} where
         (first_noted (map noted_of c.notes.items) q)
     pub versions : (q : Bytes) → versions_in t q ≡ cond (same q key) (Some (wrote phase c.start (versions_in s key) live)) (versions_in s q)
     pub keys : KeepsSlots s t
+    pub slots : length t ≡ slots_with (is_none (versions_in s key)) s
 
   -- one instruction more
   pub record ExecutesOne (phase : Phase) (s : Slots) (c : OpenCall A) (t : Slots) (d : OpenCall A) : Type 0 where
@@ -67,6 +68,7 @@ module _ {A : Type 0} where
     pub notes : (q : Bytes) → first_noted (map noted_of d.notes.items) q ≡ noted (touch_in c.machine) (becomes_in s c.machine) (versions_in s) (first_noted (map noted_of c.notes.items)) q
     pub versions : (q : Bytes) → versions_in t q ≡ wrote_key phase c.start (touch_in c.machine) (becomes_in s c.machine) (versions_in s) q
     pub keys : KeepsSlots s t
+    pub slots : length t ≡ slots_with (makes_record (versions_in s) (touch_in c.machine) (becomes_in s c.machine)) s
 
   pub record Advances (phase : Phase) (s : Slots) (c : OpenCall A) (t : Slots) (d : OpenCall A) : Type 0 where
     pub on : ExecutesOne phase s c t d

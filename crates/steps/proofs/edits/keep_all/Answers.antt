@@ -17,4 +17,5 @@ loop-note-preserved g c =
           ∙ c.loop-note.invariant.0 q,
       c.keep_key.ensures.slots ∙ c.loop-note.invariant.1,
       slots_then c.args.store.now c.loop-note.store c.keep_key.new.store c.loop-note.invariant.2 c.keep_key.ensures.keys,
+      λ slot. c.keep_key.ensures.same slot ∙ c.loop-note.invariant.3 slot,
     )

@@ -16,4 +16,5 @@ loop-note-preserved g c =
           ∙ c.loop-note.invariant.0 q,
       c.undo_note.ensures.slots ∙ c.loop-note.invariant.1,
       slots_then c.args.store.now c.loop-note.store c.undo_note.new.store c.loop-note.invariant.2 c.undo_note.ensures.keys,
+      λ slot. c.undo_note.ensures.same slot ∙ c.loop-note.invariant.3 slot,
     )

@@ -1,11 +1,13 @@
-use Rattle.std.proofs.Common.{◌≡◌, refl, ap, ◌∙◌, sym, subst, None, Bool, false, IsSome, Err}
-use Rattle.record_store.specs.Stores.{Slots, changed, live_at, with_aside, with_record, new_record}
+use Rattle.std.proofs.Common.{◌≡◌, refl, ap, ◌∙◌, sym, subst, length, length-set, ◌+◌, if◌then◌else◌, Option, None, is_none, Bool, false, IsSome, Err}
+use Rattle.record_store.specs.Stores.{Slots, changed, live_at, records, with_aside, with_record, new_record}
 use Rattle.procedure.specs.Bytes.{Bytes, Cell}
 use Rattle.record_store.specs.declared.stores.CreateError.{CreateError}
 use Rattle.record_store.specs.declared.stores.CreateError.TheVariants.{TableFull}
-use Rattle.steps.specs.Versions.{live_version, versions_in}
+use Rattle.steps.specs.Versions.{KeyVersions, live_version, slots_with, versions_in}
 use Rattle.steps.specs.inside.RecordEdits.{KeepsSlots, edited, written_versions}
 use Rattle.steps.proofs.store.SlotEdits.{slots_changed, slots_made}
+use Rattle.record_store.proofs.Fields.{count_edit}
+use Rattle.record_store.proofs.Making.{records-made}
 use Rattle.steps.proofs.store.RecordEdits.{found_in, none_in, live_in, live_created, versions_aside, versions_written, versions_made}
 use Rattle.steps.proofs.edits.write_key.Goals as goal
 
@@ -71,3 +73,31 @@ pub returns-in-Err-write_record-clause-keys : goal.returns-in-Err-write_record-c
 returns-in-Err-write_record-clause-keys g c =
     let none = ap (λ (l : Slots). live_at l c.in-Ok-create.slot) c.in-Ok-create.ensures.ok ∙ live_created c.args.store.now c.in-Ok-create.slot c.args.key c.is_late.result in
     absurd (let some : IsSome {T = Bytes} None = subst (λ (x : Cell). IsSome x) none c.in-Err-write_record.ensures.memory in cc)
+
+pub returns-in-Ok-clause-slots : goal.returns-in-Ok-clause-slots
+returns-in-Ok-clause-slots g c =
+    let found = found_in c.args.store.now c.in-Some.slot c.args.key c.find.ensures.once c.in-Some.ensures.found in
+    ap length c.in-Ok.ensures.ok ∙ length-set c.args.store.now c.in-Some.slot _
+    ∙ sym (ap (λ (o : Option KeyVersions). slots_with (is_none o) c.args.store.now) found.2)
+
+pub returns-in-Ok-write_record-clause-slots : goal.returns-in-Ok-write_record-clause-slots
+returns-in-Ok-write_record-clause-slots g c =
+    let none = none_in c.args.store.now c.args.key c.in-None.ensures.found in
+    ap length c.reconsider.ensures ∙ length-set c.write_record-in-Ok-create.new.store c.in-Ok-create.slot _
+    ∙ ap length c.in-Ok-write_record.ensures.ok ∙ length-set c.create.new.self c.in-Ok-create.slot _
+    ∙ c.in-Ok-create.ensures.slots
+    ∙ sym (ap (λ (o : Option KeyVersions). slots_with (is_none o) c.args.store.now) none)
+
+pub returns-in-Ok-clause-records : goal.returns-in-Ok-clause-records
+returns-in-Ok-clause-records g c =
+    let found = found_in c.args.store.now c.in-Some.slot c.args.key c.find.ensures.once c.in-Some.ensures.found in
+    ap records c.in-Ok.ensures.ok ∙ count_edit (edited (written_versions c.args.start c.args.live)) c.args.store.now c.in-Some.slot
+    ∙ ap (λ (o : Option KeyVersions). if is_none o then records c.args.store.now + 1 else records c.args.store.now) (sym found.2)
+
+pub returns-in-Ok-write_record-clause-records : goal.returns-in-Ok-write_record-clause-records
+returns-in-Ok-write_record-clause-records g c =
+    let none = none_in c.args.store.now c.args.key c.in-None.ensures.found in
+    ap records c.reconsider.ensures ∙ count_edit (with_aside false) c.write_record-in-Ok-create.new.store c.in-Ok-create.slot
+    ∙ ap records c.in-Ok-write_record.ensures.ok ∙ count_edit (edited (written_versions c.args.start c.args.live)) c.create.new.self c.in-Ok-create.slot
+    ∙ ap records c.in-Ok-create.ensures.ok ∙ records-made c.args.store.now c.in-Ok-create.slot (new_record c.args.key c.is_late.result) c.in-Ok-create.ensures.vacant
+    ∙ ap (λ (o : Option KeyVersions). if is_none o then records c.args.store.now + 1 else records c.args.store.now) (sym none)

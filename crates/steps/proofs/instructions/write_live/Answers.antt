@@ -21,4 +21,5 @@ returns-in-Ok-write_key-clause-ok g c =
           ∙ ap (λ x. cond (same q c.args.key) (note (first_noted (map noted_of old.notes.items) c.args.key) x) (first_noted (map noted_of old.notes.items) q)) c.in-Ok-write_key.ensures.before;
       versions = c.in-Ok-write_key.ensures.ok;
       keys = c.write_key.ensures.keys;
+      slots = c.in-Ok-write_key.ensures.slots;
     }

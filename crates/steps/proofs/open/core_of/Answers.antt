@@ -36,4 +36,4 @@ returns g c =
     (λ q.
     c.requires.store q
     ∙ versions_opened c.args.opening c.entries-entries.ensures.lawful c.requires.opening
-    (versions_in []) versions_in-new q) c.len-records.ensures.most c.none.ensures.seen c.none.ensures.number c.none.ensures.finished refl
+    (versions_in []) versions_in-new q) c.len-records.ensures.most c.none.ensures.seen c.none.ensures.number c.none.ensures.finished refl c.requires.slots

@@ -42,14 +42,14 @@ invariant_of-self-2 g c =
     capture_core c.self.inside c.self.invariant c.visit.new.store c.keep.new.captured c.keep.new.given c.self.inside.checkpoint.tally c.key_at_place-key.result
     (visit_by c.self.inside c.self.invariant c.visit.new.store c.keep.new.captured c.keep.new.given c.self.inside.checkpoint.tally c.key_at_place-key.result c.reserve.new.self.items c.in-Ok.held c.in-Whole.is c.in-Capture.is c.if-self.false
     c.key_at_place-key.ensures
-    c.in-Ok.ensures.once c.in-Ok.ensures.keys c.in-Ok.ensures.aside c.in-Ok.ensures.versions c.keep.ensures.captured c.keep.ensures.given c.reserve.ensures.items c.in-Ok.ensures.given)
+    c.in-Ok.ensures.once c.in-Ok.ensures.slots c.in-Ok.ensures.keys c.in-Ok.ensures.aside c.in-Ok.ensures.versions c.keep.ensures.captured c.keep.ensures.given c.reserve.ensures.items c.in-Ok.ensures.given)
 
 pub returns-clause-captured : goal.returns-clause-captured
 returns-clause-captured g c =
     capture_view c.self.inside c.self.invariant c.visit.new.store c.keep.new.captured c.keep.new.given c.self.inside.checkpoint.tally c.key_at_place-key.result
     (visit_by c.self.inside c.self.invariant c.visit.new.store c.keep.new.captured c.keep.new.given c.self.inside.checkpoint.tally c.key_at_place-key.result c.reserve.new.self.items c.in-Ok.held c.in-Whole.is c.in-Capture.is c.if-self.false
     c.key_at_place-key.ensures
-    c.in-Ok.ensures.once c.in-Ok.ensures.keys c.in-Ok.ensures.aside c.in-Ok.ensures.versions c.keep.ensures.captured c.keep.ensures.given c.reserve.ensures.items c.in-Ok.ensures.given)
+    c.in-Ok.ensures.once c.in-Ok.ensures.slots c.in-Ok.ensures.keys c.in-Ok.ensures.aside c.in-Ok.ensures.versions c.keep.ensures.captured c.keep.ensures.given c.reserve.ensures.items c.in-Ok.ensures.given)
     c.args.self.now c.self.view_is
 
 pub returns-clause-refusal : goal.returns-clause-refusal

@@ -44,13 +44,13 @@ pub invariant_of-self-2 : goal.invariant_of-self-2
 invariant_of-self-2 g c =
     capture_core c.self.inside c.self.invariant c.send_key.new.store c.self.inside.checkpoint.captured c.send_key.new.given c.send_key.new.tally c.key_at_place-key.result
     (visit_to c.self.inside c.self.invariant c.send_key.new.store c.self.inside.checkpoint.captured c.send_key.new.given c.send_key.new.tally c.key_at_place-key.result c.in-Streamed.is c.in-Capture.is
-    c.if-self.false c.key_at_place-key.ensures c.in-Ok.ensures.once c.in-Ok.ensures.keys c.in-Ok.ensures.aside c.in-Ok.ensures.versions c.in-Ok.ensures.sent)
+    c.if-self.false c.key_at_place-key.ensures c.in-Ok.ensures.once c.in-Ok.ensures.slots c.in-Ok.ensures.keys c.in-Ok.ensures.aside c.in-Ok.ensures.versions c.in-Ok.ensures.sent)
 
 pub returns-clause-captured : goal.returns-clause-captured
 returns-clause-captured g c =
     capture_view c.self.inside c.self.invariant c.send_key.new.store c.self.inside.checkpoint.captured c.send_key.new.given c.send_key.new.tally c.key_at_place-key.result
     (visit_to c.self.inside c.self.invariant c.send_key.new.store c.self.inside.checkpoint.captured c.send_key.new.given c.send_key.new.tally c.key_at_place-key.result c.in-Streamed.is c.in-Capture.is
-    c.if-self.false c.key_at_place-key.ensures c.in-Ok.ensures.once c.in-Ok.ensures.keys c.in-Ok.ensures.aside c.in-Ok.ensures.versions c.in-Ok.ensures.sent)
+    c.if-self.false c.key_at_place-key.ensures c.in-Ok.ensures.once c.in-Ok.ensures.slots c.in-Ok.ensures.keys c.in-Ok.ensures.aside c.in-Ok.ensures.versions c.in-Ok.ensures.sent)
     c.args.self.now c.self.view_is
 
 pub returns-clause-refusal : goal.returns-clause-refusal

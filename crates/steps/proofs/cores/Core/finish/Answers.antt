@@ -90,7 +90,7 @@ returns-in-Some-clause-finished g c =
     let last = with_item c.self.inside.last c.from-index.result (Some c.in-Some.call.number) in
     finish_view c.self.inside c.self.invariant c.args.session c.in-Some.call is c.end_call.new.log c.end_call.new.store c.release_all.new.self c.end_call.new.changed c.taken.new.calls c.clear.new.self
     last c.after_release-self-inside.result c.in_ok-outcome.outcome outcome done.0 log_is calls_are c.end_call.ensures.versions collecting frozen locks_are starts last_is c.end_call.ensures.most
-    c.end_call.ensures.keys c.after_release-self-inside.ensures c.end_call.ensures.slots c.args.self.now c.self.view_is
+    c.end_call.ensures.keys c.after_release-self-inside.ensures c.end_call.ensures.slots c.end_call.ensures.same c.args.self.now c.self.view_is
 
 pub returns-in-Some-clause-answer : goal.returns-in-Some-clause-answer
 returns-in-Some-clause-answer g c =

@@ -27,7 +27,7 @@ returns-in-Some-clause-given_up g c =
     c.after_release-self-inside.result)) i) c.from-index.ensures
     (give_up_view c.self.inside c.self.invariant c.from-index.result c.in-Some.call
     (sym c.in-Some.ensures.value) c.taken.new.calls c.undo_all.new.store c.release_all.new.self c.clear.new.self c.after_release-self-inside.result
-    c.args.self.now c.self.view_is c.in-Some.ensures.some c.undo_all.ensures.versions c.undo_all.ensures.slots)
+    c.args.self.now c.self.view_is c.in-Some.ensures.some c.undo_all.ensures.versions c.undo_all.ensures.slots c.undo_all.ensures.same)
 
 pub returns-in-Some-clause-active : goal.returns-in-Some-clause-active
 returns-in-Some-clause-active g c = (
