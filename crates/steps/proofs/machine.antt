@@ -9,3 +9,4 @@ pub mod CallInvariant
 pub mod PhaseStatuses
 pub mod CheckpointInvariant
 pub mod ScheduleInvariant
+pub mod ScanKinds

@@ -3,3 +3,4 @@ pub mod CoreState
 pub mod OpenedCore
 pub mod FilledLists
 pub mod ChangedItems
+pub mod KeyStatuses

@@ -14,7 +14,7 @@ use Rattle.image.specs.declared.headers.Header.{Header}
 use Rattle.image.specs.declared.images.Kind.{Kind}
 use Rattle.image.specs.declared.images.Kind.TheVariants.{Full, Partial}
 use Rattle.record_store.specs.ChangedSets.{KeySet, count, has, keys_of}
-use Rattle.record_store.specs.Stores.{record_at_rest, key_at}
+use Rattle.record_store.specs.Stores.{Slots, record_at_rest, key_at}
 use Rattle.steps.specs.CoreViews.{CoreView, SameKeys, Underway}
 use Rattle.steps.specs.CutImages.{IsCutOf}
 use Rattle.steps.specs.Versions.{given_of, kept_of, versions_in, KeyVersions, captured_at}
@@ -58,6 +58,11 @@ EndsAt Partial v bound = (s : KeySet) × IsFrozen v s × (bound ≡ count s)
 abbrev pub VisitsNext : Kind → CoreView → Option Bytes → Type 0
 VisitsNext Full v key = key ≡ key_at v.slots v.checkpoint.cursor
 VisitsNext Partial v key = (s : KeySet) × IsFrozen v s × (key ≡ slice_get (keys_of s) v.checkpoint.cursor)
+
+-- the key at each place that a scan visits: in the slots in turn, or of the frozen keys in their order
+abbrev pub spots : Kind → Slots → KeySet → ℕ → Option Bytes
+spots Full slots frozen i = key_at slots i
+spots Partial slots frozen i = slice_get (keys_of frozen) i
 
 -- the versions of a key, after a scan visited its record: the stable version is taken where the record is available, and the
 -- record is available

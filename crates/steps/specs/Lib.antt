@@ -7,6 +7,7 @@ pub mod Promises
 pub mod Reclaiming
 pub mod Refusals
 pub mod Schedules
+pub mod Statuses
 pub mod Streaming
 pub mod Versions
 pub mod Visits

@@ -2,6 +2,7 @@
 
 ghost use Rattle.std.specs.Prelude.{◌≡◌, option_map};
 ghost use Rattle.record_store.specs.Stores.{record_at};
+ghost use Rattle.steps.specs.Statuses.{HasStatus};
 ghost use Rattle.steps.specs.Versions.{versions_in, lent_versions, versions_at};
 
 use crate::cores::Core;
@@ -42,7 +43,8 @@ fn lent<A: Allocator>(store: &Store<A>, slot: usize) -> Option<Versions<'_, A>>
 impl<A: Allocator> Core<A> {
     /// The versions of a key; None where it has no record.
     pub fn versions(&self, key: &Key) -> Option<Versions<'_, A>>
-        ensures { option_map lent_versions result ≡ versions_in self.now.slots key.now }
+        ensures value { option_map lent_versions result ≡ versions_in self.now.slots key.now }
+        ensures status { HasStatus self.now key.now (versions_in self.now.slots key.now) }
     {
         match self.store.find(key) {
             Some(slot) => lent(&self.store, slot),

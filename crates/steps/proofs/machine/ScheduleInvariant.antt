@@ -5,6 +5,7 @@ use Rattle.std.specs.Prelude.{◌==◌}
 use Rattle.commitlog.specs.Cuts.{in_full}
 use Rattle.commitlog.specs.Histories.{Follows}
 use Rattle.commitlog.specs.Records.{Record, Token, Call}
+use Rattle.image.specs.Merges.{is_full}
 use Rattle.image.specs.declared.images.Kind.TheVariants.{Full, Partial}
 use Rattle.phase.specs.declared.phases.Phase.{Phase}
 use Rattle.phase.specs.declared.phases.Phase.TheVariants.{Rest, Prepare, Resolve, Capture, Complete}
@@ -30,7 +31,7 @@ goes_good (Aborts {w = w} s c i e z) g = abort_good w g s c i e z
 goes_good (Gives_up {w = w} s c i) g = give_up_good w g s c i
 goes_good (Starts {w = w} k e) g = start_good w g k e
 goes_good (Resolves {w = w} e a) g = resolve_good w g e a
-goes_good (Captures {w = w} b e a k) g = capture_good w g b e a k
+goes_good (Captures {w = w} b e a k) g = capture_good w g b e a (λ f. k ∙ ap is_full f)
 goes_good (Visits {w = w} k v m) g = visit_good w g k v m
 goes_good (Completes {w = w} e d) g = complete_good w g e d
 goes_good (Rests {w = w} e a) g = rest_good w g e a

@@ -100,7 +100,7 @@ module _ {A : Type 0} (c : Inside A) (ok : IsCore c) where
     begin_core =
         token_core c ok Capture ok.world.number log.records (number_here c ok log Capture log_is) log refl c.store c.changed
         begun c.aside (capture ok.world (is_full c.checkpoint.kind))
-        (more ok.run (Captures (is_full c.checkpoint.kind) (ok.stands.phase ∙ phase_is) (all_started c ok Resolve free) (λ e. ap is_full (sym ok.stands.checkpoint.kind ∙ e))))
+        (more ok.run (Captures (is_full c.checkpoint.kind) (ok.stands.phase ∙ phase_is) (all_started c ok Resolve free) (ap is_full (sym ok.stands.checkpoint.kind))))
         record {
           catalog = ok.stands.catalog;
           opening = ok.stands.opening;

@@ -14,14 +14,10 @@ use Rattle.record_store.specs.ChangedSets.{KeySet, count, keys_of}
 use Rattle.record_store.specs.Stores.{Slots, key_at}
 use Rattle.steps.specs.machine.NewestFirst.{MachineImage}
 use Rattle.steps.specs.Refusals.{is_cutting}
+pub use Rattle.steps.specs.Checkpointing.{spots}
 use Rattle.steps.specs.machine.ScheduleAnswers.{Among}
 use Rattle.steps.specs.declared.checkpoints.Checkpoint.{Checkpoint}
 use Rattle.steps.specs.declared.checkpoints.Way.TheVariants.{Streamed, Whole}
-
--- the key at each place that a scan visits: in the slots in turn, or of the frozen keys in their order
-abbrev pub spots : Kind → Slots → KeySet → ℕ → Option Bytes
-spots Full slots frozen i = key_at slots i
-spots Partial slots frozen i = slice_get (keys_of frozen) i
 
 -- how many places it visits
 abbrev pub places : Kind → Slots → KeySet → ℕ

@@ -14,6 +14,7 @@ use Rattle.steps.specs.machine.NewestFirst.{IsLegalHistory, IsOrderlyHistory, Is
 use Rattle.steps.specs.machine.Machine.{Open, CallsBySession, State, now, keeps}
 use Rattle.steps.specs.Versions.{KeyVersions, VersionsByKey, live_version, undo_of}
 use Rattle.steps.specs.Refusals.{is_cutting}
+pub use Rattle.steps.specs.Statuses.{StatusAtCapture, StatusAtComplete, StatusAtPrepare, StatusAtResolve, StatusAtRest}
 
 pub record Lawful (cat : List Procedure) (t : Table) (h : List Record) (p : Phase) (n f : ℕ) : Type 0 where
   pub legal : IsLegalHistory cat t h
@@ -90,39 +91,7 @@ Held calls q = (s : ℕ) × (c : Open) × (calls s ≡ Some c) × (c.start ≡ P
 abbrev pub Early : CallsBySession → Bytes → Type 0
 Early calls q = (s : ℕ) (c : Open) → calls s ≡ Some c → c.start ≡ Prepare → change_at c.machine.changes q ≡ None
 
--- The status of a record, by its availability and its stable version. a is what the table holds now, b what it held at the
--- token; U says that no open call has changed the key, H that one from prepare has, E that none from prepare has
-abbrev pub StatusAtPrepare : Cell → (H E : Type 0) → Bool → Option Cell → Type 0
-StatusAtPrepare a H E false None = E
-StatusAtPrepare a H E false (Some x) = (x ≡ a) × H
-StatusAtPrepare a H E true s = ⊥
-
-abbrev pub StatusAtResolve : (a b : Cell) → (U H : Type 0) → Bool → Option Cell → Type 0
-StatusAtResolve a b U H true (Some x) = x ≡ b
-StatusAtResolve a b U H true None = ⊥
-StatusAtResolve a b U H false None = (a ≡ b) × U
-StatusAtResolve a b U H false (Some x) = (x ≡ b) × (a ≡ b) × H
-
-abbrev pub StatusAtCapture : (a b : Cell) (visited frozen : Bool) → (U : Type 0) → Bool → Option Cell → Type 0
-StatusAtCapture a b true fro U true None = Unit {0}
-StatusAtCapture a b true fro U true (Some x) = ⊥
-StatusAtCapture a b true fro U false s = ⊥
-StatusAtCapture a b false fro U true (Some x) = x ≡ b
-StatusAtCapture a b false fro U true None = (b ≡ None) × (fro ≡ false)
-StatusAtCapture a b false fro U false None = (a ≡ b) × U
-StatusAtCapture a b false fro U false (Some x) = ⊥
-
-abbrev pub StatusAtComplete : (visited : Bool) → Bool → Option Cell → Type 0
-StatusAtComplete false av s = Unit {0}
-StatusAtComplete true true None = Unit {0}
-StatusAtComplete true true (Some x) = ⊥
-StatusAtComplete true false s = ⊥
-
-abbrev pub StatusAtRest : Bool → Option Cell → Type 0
-StatusAtRest false None = Unit {0}
-StatusAtRest false (Some x) = ⊥
-StatusAtRest true s = ⊥
-
+-- The status of a record. U says that no open call has changed the key, H that one from prepare has, E that none from prepare has
 abbrev pub status : Phase → (a b : Cell) (visited frozen : Bool) (U H E : Type 0) → Option KeyVersions → Type 0
 status Rest a b vis fro U H E None = Unit {0}
 status Rest a b vis fro U H E (Some v) = StatusAtRest v.available v.stable

@@ -5,6 +5,7 @@ use Rattle.commitlog.specs.Histories.{code_of, Takes, IsAbove}
 use Rattle.commitlog.specs.Records.{Record, Token, Call}
 use Rattle.image.specs.declared.images.Kind.{Kind}
 use Rattle.image.specs.declared.images.Kind.TheVariants.{Full, Partial}
+use Rattle.image.specs.Merges.{is_full}
 use Rattle.phase.specs.declared.phases.Phase.{Phase}
 use Rattle.phase.specs.declared.phases.Phase.TheVariants.{Rest, Prepare, Resolve, Capture, Complete}
 use Rattle.procedure.specs.Bytes.{Bytes, Cell, same}
@@ -243,7 +244,7 @@ pub data Goes : State → State → Type 0 where
   Gives_up : {w : State} (s : ℕ) (c : Open) → w.calls s ≡ Some c → Goes w (give_up w s c)
   Starts : {w : State} (k : Kind) → w.phase ≡ Rest → Goes w (start w k)
   Resolves : {w : State} → w.phase ≡ Prepare → AllStarted Prepare w.calls → Goes w (resolve w)
-  Captures : {w : State} (all : Bool) → w.phase ≡ Resolve → AllStarted Resolve w.calls → (w.kind ≡ Full → all ≡ true) → Goes w (capture w all)
+  Captures : {w : State} (all : Bool) → w.phase ≡ Resolve → AllStarted Resolve w.calls → all ≡ is_full w.kind → Goes w (capture w all)
   Visits : {w : State} (k : Bytes) (v : KeyVersions) → MayVisit w k v → Goes w (visit w k v)
   Completes : {w : State} → w.phase ≡ Capture → ((q : Bytes) → w.bound q ≡ true → w.visited q ≡ true) → Goes w (complete w)
   Rests : {w : State} → w.phase ≡ Complete → AllStarted Complete w.calls → Goes w (rest w)
