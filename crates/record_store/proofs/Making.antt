@@ -49,10 +49,10 @@ records-made (None ∷ xs) zero r none =
 records-made (Some x ∷ xs) zero r none = absurd (cc)
 records-made (x ∷ xs) (suc n) r none =
     omega (
-    arith,
-    records-made xs n r none,
-    sum_by-cons (λ (o : Option StoreRecord). cond (is_some o) 1 0) x xs,
-    sum_by-cons (λ (o : Option StoreRecord). cond (is_some o) 1 0) x (with_record xs n r),
+      arith,
+      records-made xs n r none,
+      sum_by-cons (λ (o : Option StoreRecord). cond (is_some o) 1 0) x xs,
+      sum_by-cons (λ (o : Option StoreRecord). cond (is_some o) 1 0) x (with_record xs n r),
     )
 
 keys_equal : (x y : Bytes) → pointwise nat_eq x y ≡ true → x ≡ y

@@ -5,3 +5,4 @@ pub mod CompletedImage
 pub mod SentEntries
 pub mod SharedDigests
 pub mod VisitCounts
+pub mod ScannedKeys

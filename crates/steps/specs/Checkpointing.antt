@@ -1,5 +1,5 @@
 -- What the calls that make a checkpoint do to a core.
-use Rattle.std.specs.Prelude.{◌≡◌, ◌<◌, ℕ, suc, cond, [], ◌∷◌, ◌++◌, length, map, slice_get, Option, Some, None}
+use Rattle.std.specs.Prelude.{◌≡◌, ◌<◌, ℕ, suc, Bool, cond, [], ◌∷◌, ◌++◌, length, map, slice_get, Option, Some, None}
 use Rattle.std.specs.Option.{option_map}
 use Rattle.procedure.specs.Bytes.{Bytes, same}
 use Rattle.phase.specs.declared.phases.Phase.{Phase}
@@ -43,11 +43,15 @@ rested_core v = record v { slots = map (option_map record_at_rest) v.slots }
 
 -- THE SCAN
 
--- the keys that were written between the cut of the last finished checkpoint and that of the one that runs
-abbrev pub IsFrozen : CoreView → KeySet → Type 0
-IsFrozen v s =
+-- was the key written between the cut of the checkpoint that runs and that of the last one that was finished before?
+abbrev pub written_between : CoreView → Bytes → Bool
+written_between v q =
     let n = number_of v.log in
-    (q : Bytes) → has s q ≡ written v.catalog (table_of v.opening) v.log (cut v.log (finished_below v.log n)) (cut v.log n) q
+    written v.catalog (table_of v.opening) v.log (cut v.log (finished_below v.log n)) (cut v.log n) q
+
+-- these keys
+abbrev pub IsFrozen : CoreView → KeySet → Type 0
+IsFrozen v s = (q : Bytes) → has s q ≡ written_between v q
 
 -- where a scan ends: at the number of slots, or of those keys
 abbrev pub EndsAt : Kind → CoreView → ℕ → Type 0

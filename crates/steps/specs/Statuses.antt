@@ -7,9 +7,10 @@ use Rattle.phase.specs.declared.phases.Phase.TheVariants.{Rest, Prepare, Resolve
 use Rattle.commitlog.specs.Cuts.{at_cut}
 use Rattle.commitlog.specs.Histories.{number_of, phase_of}
 use Rattle.image.specs.Merges.{table_of}
-use Rattle.image.specs.declared.images.Kind.TheVariants.{Full}
+use Rattle.image.specs.declared.images.Kind.{Kind}
+use Rattle.image.specs.declared.images.Kind.TheVariants.{Full, Partial}
 use Rattle.record_store.specs.ChangedSets.{KeySet, has}
-use Rattle.steps.specs.Checkpointing.{IsFrozen, spots}
+use Rattle.steps.specs.Checkpointing.{IsFrozen, spots, written_between}
 use Rattle.steps.specs.CoreViews.{CoreView, Underway, front_of, open_at, table_now}
 use Rattle.steps.specs.Versions.{KeyVersions}
 
@@ -82,6 +83,11 @@ pub record ScanStatus (v : CoreView) (q : Bytes) (k : KeyVersions) : Type 0 wher
   pub visited : IsVisited v frozen q → StatusAtCapture (holds v q) (held v q) true (has frozen q) (Unchanged v q) k.available k.stable
   pub ahead : (IsVisited v frozen q → ⊥) → StatusAtCapture (holds v q) (held v q) false (has frozen q) (Unchanged v q) k.available k.stable
 
+-- the scan that has ended had a place for the key
+abbrev pub HadPlace : Kind → CoreView → Bytes → Type 0
+HadPlace Full v q = Unit {0}
+HadPlace Partial v q = written_between v q ≡ true
+
 -- the status in a phase; of a key without a record, that it held nothing at the cut
 abbrev pub StatusIn : Phase → CoreView → Bytes → Option KeyVersions → Type 0
 StatusIn Rest v q None = Unit {0}
@@ -93,7 +99,7 @@ StatusIn Resolve v q (Some k) = StatusAtResolve (holds v q) (held v q) (Unchange
 StatusIn Capture v q None = held v q ≡ None
 StatusIn Capture v q (Some k) = ScanStatus v q k
 StatusIn Complete v q None = Unit {0}
-StatusIn Complete v q (Some k) = v.checkpoint.kind ≡ Full → StatusAtComplete true k.available k.stable
+StatusIn Complete v q (Some k) = HadPlace v.checkpoint.kind v q → StatusAtComplete true k.available k.stable
 
 -- the status in the phase of the log
 abbrev pub HasStatus : CoreView → Bytes → Option KeyVersions → Type 0

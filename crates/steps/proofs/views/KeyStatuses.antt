@@ -1,5 +1,5 @@
 -- The status of each key's record, by the machine's state for which a core stands.
-use Rattle.std.proofs.Common.{◌≡◌, ℕ, ◌<◌, Bool, true, false, not, ◌&&◌, ◌||◌, List, Option, Some, None, is_some, option_map, reverse, inl, inr, refl, sym, ap, ◌∙◌, subst, true≢false}
+use Rattle.std.proofs.Common.{◌≡◌, ℕ, ◌<◌, Bool, true, false, not, ◌&&◌, ◌||◌, List, Option, Some, None, is_some, option_map, reverse, refl, sym, ap, ◌∙◌, subst, true≢false}
 use Rattle.procedure.specs.Bytes.{Bytes, Cell}
 use Rattle.procedure.specs.Runs.{Front}
 use Rattle.procedure.specs.Table.{Table, change_at, value_at}
@@ -7,19 +7,17 @@ use Rattle.procedure.specs.Procedures.{Procedure}
 use Rattle.phase.specs.declared.phases.Phase.{Phase}
 use Rattle.phase.specs.declared.phases.Phase.TheVariants.{Rest, Prepare, Resolve, Capture, Complete}
 use Rattle.commitlog.specs.Cuts.{at_cut}
-use Rattle.commitlog.specs.Histories.{number_of, phase_of}
 use Rattle.commitlog.specs.Records.{Record}
 use Rattle.image.specs.Merges.{is_full, table_of}
 use Rattle.image.specs.declared.images.Kind.{Kind}
 use Rattle.image.specs.declared.images.Kind.TheVariants.{Full, Partial}
 use Rattle.record_store.specs.ChangedSets.{has}
 use Rattle.record_store.specs.Stores.{HasKeysOnce}
-use Rattle.steps.specs.CoreViews.{CoreView, Underway, front_of, open_at}
+use Rattle.steps.specs.CoreViews.{CoreView, Underway, open_at}
 use Rattle.steps.specs.Refusals.{is_cutting}
 use Rattle.steps.specs.Statuses as seen
-use Rattle.steps.specs.Statuses.{HasStatus, IsVisited, StatusIn, StatusAtCapture, StatusAtComplete, change_by, held, holds}
+use Rattle.steps.specs.Statuses.{HadPlace, HasStatus, IsVisited, StatusIn, StatusAtCapture, StatusAtComplete, change_by, held, holds}
 use Rattle.steps.specs.Versions.{KeyVersions, versions_in}
-use Rattle.steps.specs.inside.CheckpointFields.{spots}
 use Rattle.steps.specs.inside.CoreFields.{IsCore, IsOpen, SameCall, call_at, underway, view_of}
 use Rattle.steps.specs.machine.Invariant.{Early, Held, ScanKeepsIn, Unchanged, passed, status}
 use Rattle.steps.specs.machine.Machine.{Open, now}
@@ -33,6 +31,7 @@ use Rattle.steps.proofs.phases.AddedToken.{number_is}
 use Rattle.steps.proofs.phases.FrozenKeys.{frozen_is, place_here}
 use Rattle.steps.proofs.scans.CapturingCore.{scan_good, scan_here}
 use Rattle.steps.proofs.scans.ScanPlaces.{frozen_at, one_spot}
+use Rattle.steps.proofs.scans.ScannedKeys.{visited_in_the_end}
 use Rattle.steps.proofs.sessions.AcceptedCalls.{shown_at}
 use Rattle.steps.proofs.sessions.EndedCall.{machine_is}
 use Rattle.steps.proofs.views.CoreState.{good, now_is, phase_is, some_open}
@@ -206,16 +205,22 @@ module _ {A : Type 0} (c : Inside A) (ok : IsCore c) (q : Bytes) where
         ahead = λ unseen. ahead_by (holds v q) (held v q) gone (has c.changed.frozen q) (seen.Unchanged v q) (absent_before unseen) k.available k.stable x;
       }
 
-    -- a scan of all has passed every key in the end
-    at_complete : c.phase ≡ Complete → (o : Option KeyVersions) (b : Cell) (frozen : Bool) → StatusBy Complete b gone frozen o → StatusIn Complete v q o
-    at_complete completing None b frozen x = tt
-    at_complete completing (Some k) b frozen x = λ full.
+    -- in the end the scan has passed each key that it had a place for
+    passed_all : c.phase ≡ Complete → (kind : Kind) → c.checkpoint.kind ≡ kind → HadPlace kind v q → gone ≡ true
+    passed_all completing Full e place =
         let there : ok.world.phase ≡ Complete = ok.stands.phase ∙ completing in
         let scans = subst (λ p. ScanKeepsIn p ok.world.kind (at ok.world.catalog ok.world.opening ok.world.number ok.world.log) ok.world.visited ok.world.bound ok.world.frozen ok.world.given) there (good c ok).scan in
-        let all : ok.world.all ≡ true = scan_in_complete c.catalog (table_of c.opening) ok.world ok.run there ∙ ap is_full (ok.stands.checkpoint.kind ∙ full) in
-        let past : gone ≡ true = either_way (ok.world.bound q) (λ is. by_visit (ok.world.visited q) ok.world.all (ok.world.bound q) (scans q is))
-        (λ not_bound. beyond (ok.world.visited q) ok.world.all (ok.world.bound q) all not_bound) in
-        subst (λ (b : Bool). StatusAtComplete b k.available k.stable) past x
+        let all : ok.world.all ≡ true = scan_in_complete c.catalog (table_of c.opening) ok.world ok.run there ∙ ap is_full (ok.stands.checkpoint.kind ∙ e) in
+        either_way (ok.world.bound q) (λ is. by_visit (ok.world.visited q) ok.world.all (ok.world.bound q) (scans q is))
+        (λ not_bound. beyond (ok.world.visited q) ok.world.all (ok.world.bound q) all not_bound)
+    passed_all completing Partial e place =
+        let there : ok.world.phase ≡ Complete = ok.stands.phase ∙ completing in
+        let some : ok.world.all ≡ false = scan_in_complete c.catalog (table_of c.opening) ok.world ok.run there ∙ ap is_full (ok.stands.checkpoint.kind ∙ e) in
+        by_visit (ok.world.visited q) ok.world.all (ok.world.bound q) (visited_in_the_end c ok completing some q place)
+
+    at_complete : c.phase ≡ Complete → (o : Option KeyVersions) (b : Cell) (frozen : Bool) → StatusBy Complete b gone frozen o → StatusIn Complete v q o
+    at_complete completing None b frozen x = tt
+    at_complete completing (Some k) b frozen x = λ place. subst (λ (b : Bool). StatusAtComplete b k.available k.stable) (passed_all completing c.checkpoint.kind refl place) x
 
     status_in : StatusIn c.phase v q (versions_in c.store q)
     status_in = by c.phase refl status_here

@@ -1,5 +1,5 @@
 -- How a core keeps the checkpoint that runs, or the last one that ran.
-use Rattle.std.specs.Prelude.{◌≡◌, ◌≤◌, ◌<◌, ℕ, Bool, true, false, List, length, slice_get, Option, Some, None}
+use Rattle.std.specs.Prelude.{◌≡◌, ◌≤◌, ◌<◌, ℕ, Bool, true, false, List, length, Option, Some, None}
 use Rattle.procedure.specs.Bytes.{Bytes}
 use Rattle.procedure.specs.Table.{Changes}
 use Rattle.phase.specs.declared.phases.Phase.{Phase}
@@ -10,8 +10,8 @@ use Rattle.image.specs.Images.{changes_of}
 use Rattle.image.specs.declared.headers.Header.{Header}
 use Rattle.image.specs.declared.images.Kind.{Kind}
 use Rattle.image.specs.declared.images.Kind.TheVariants.{Full, Partial}
-use Rattle.record_store.specs.ChangedSets.{KeySet, count, keys_of}
-use Rattle.record_store.specs.Stores.{Slots, key_at}
+use Rattle.record_store.specs.ChangedSets.{KeySet, count}
+use Rattle.record_store.specs.Stores.{Slots}
 use Rattle.steps.specs.machine.NewestFirst.{MachineImage}
 use Rattle.steps.specs.Refusals.{is_cutting}
 pub use Rattle.steps.specs.Checkpointing.{spots}

@@ -36,14 +36,14 @@ loop-entry-preserved g c =
       rises = rises_after e left rises;
       lacks = lacks_same (with_opened vs e) (versions_in c.fill_entry.new.store) left c.in_ok-fill_entry.ensures.versions (lacks_after vs e left rises lacks);
       slots = omega (
-      arith,
-      c.in_ok-fill_entry.ensures.slots ∙ ap (λ (o : Option KeyVersions). slots_with (is_none o) c.loop-entry.store) none,
-      c.loop-entry.invariant.slots,
-      c.loop-entry.invariant.records,
+        arith,
+        c.in_ok-fill_entry.ensures.slots ∙ ap (λ (o : Option KeyVersions). slots_with (is_none o) c.loop-entry.store) none,
+        c.loop-entry.invariant.slots,
+        c.loop-entry.invariant.records,
       );
       records = omega (
-      arith,
-      c.in_ok-fill_entry.ensures.records ∙ ap (λ (o : Option KeyVersions). if is_none o then records c.loop-entry.store + 1 else records c.loop-entry.store) none,
-      c.loop-entry.invariant.records,
+        arith,
+        c.in_ok-fill_entry.ensures.records ∙ ap (λ (o : Option KeyVersions). if is_none o then records c.loop-entry.store + 1 else records c.loop-entry.store) none,
+        c.loop-entry.invariant.records,
       );
     }

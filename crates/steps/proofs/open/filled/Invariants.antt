@@ -1,4 +1,4 @@
-use Rattle.std.proofs.Common.{◌≡◌, List, [], T, IsSome, None, drop, length}
+use Rattle.std.proofs.Common.{◌≡◌, [], T, drop, length}
 use Rattle.std.specs.FinMap.{is_sorted}
 use Rattle.procedure.specs.Bytes.{Bytes}
 use Rattle.image.proofs.Rising.{by_bytes}

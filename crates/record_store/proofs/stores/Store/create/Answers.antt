@@ -1,4 +1,4 @@
-use Rattle.std.proofs.Common.{◌≡◌, ◌≢◌, ℕ, List, Option, Some, refl, ap, length, max, sym, ◌∙◌, ◌+◌, arith, cond, nat_eq, slice_index_or, subst}
+use Rattle.std.proofs.Common.{◌≡◌, ℕ, List, Option, Some, refl, ap, length, max, sym, ◌∙◌, ◌+◌, arith, cond, nat_eq, slice_index_or, subst}
 use Rattle.std.proofs.lemmas.Result.{err_from_is_err_and}
 use Rattle.std.specs.Cmp.Lexicographic.{pointwise}
 use Rattle.record_store.specs.Stores.{Slots, key_at, records, new_record, with_record}

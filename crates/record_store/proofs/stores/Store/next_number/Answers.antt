@@ -1,6 +1,5 @@
-use Rattle.std.proofs.Common.{◌+◌, refl, ap, ◌∙◌, map, option_map}
+use Rattle.std.proofs.Common.{refl, ap, ◌∙◌, map, option_map}
 use Rattle.record_store.specs.Stores.{Slots, record_at_rest}
-use Rattle.record_store.specs.declared.stores.Store.TheInside.{Inside}
 use Rattle.record_store.proofs.Fields.{cleaned_sound, cleaned_view, next_view}
 use Rattle.record_store.proofs.stores.Store.next_number.Goals as goal
 

@@ -1,4 +1,4 @@
-use Rattle.std.proofs.Common.{◌≡◌, ◌∙◌, List, Option, None, ap, sym, refl, option_and_then, slice_set}
+use Rattle.std.proofs.Common.{◌∙◌, List, Option, ap, sym, refl, option_and_then, slice_set}
 use Rattle.record_store.specs.DeadKeys.{offer_at}
 use Rattle.record_store.specs.Entries.{entry_at, key_if_dead, offer_of}
 use Rattle.record_store.specs.Stores.{Slots, reclaimed}
