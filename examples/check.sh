@@ -11,3 +11,4 @@ diff <(./tour.sh) tour.expected
 echo "tour.sh: as expected"
 diff <(sed -n '/^```rust$/,/^```$/p' ../README.md | sed '1d;$d') <(tail -n +3 ../crates/calcdb/src/tests/embedding.rt)
 echo "README.md: shows the embedding test as it is"
+./threads.sh

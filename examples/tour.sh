@@ -6,7 +6,7 @@ cd "$(dirname "$0")"
 program=$PWD/../crates/calcdb/out/calcdb
 folder=$(mktemp -d)
 trap 'rm -r "$folder"' EXIT
-cp accounts.pairs tour.calc "$folder"
+cp accounts.pairs tour.calc threads.calc "$folder"
 cd "$folder"
 
 calcdb() {
@@ -26,3 +26,4 @@ calcdb show whole.img
 head -c -10 bank/log > cut.log
 calcdb recover tour.calc cut.log recovered.img bank/1.img bank/2.img
 calcdb show recovered.img
+calcdb run threads.calc --open opening.img --threads

@@ -1,8 +1,6 @@
 -- How runs end, in the words of what they were given.
-use Rattle.std.proofs.Common.{◌≡◌, ◌≤◌, ◌<◌, ◌+◌, ◌⊎◌, inl, inr, Bool, true, false, nat_le, List, [], ◌++◌, length, Option, Some, None, Result, Ok, Err, refl, sym, ap, subst, ◌∙◌, arith}
-use Rattle.std.specs.Io.KnownBytes.{Appends, Consumes, IsAtEnd}
-use Rattle.std.proofs.lemmas.List.{append-nil, length-append}
-use borrow.Author.Tests.{leb-true, leb-false, lt-leb}
+use Rattle.std.proofs.Common.{◌≡◌, ◌⊎◌, inl, inr, true, List, Option, Result, Ok, Err, refl, subst}
+use Rattle.std.specs.Io.KnownBytes.{Appends}
 use Rattle.procedure.specs.Bytes.{Bytes}
 use Rattle.image.specs.Images.{Image}
 use Rattle.steps.specs.CoreViews.{CoreView}
@@ -12,14 +10,13 @@ use Rattle.calcdb.specs.Outcomes.{EndsRun, IsRunFault, Refuses, RefusesScript, S
 use Rattle.calcdb.specs.Runs.{Carried, CarriesAll, HasRun}
 use Rattle.calcdb.specs.declared.commands.Command.{Command}
 use Rattle.calcdb.specs.declared.scripts.ScriptFault.TheVariants as script
-use Rattle.calcdb.specs.Scripts.{Script, part_of, script_of}
+use Rattle.calcdb.specs.Scripts.{Schedule}
 use Rattle.calcdb.specs.declared.faults.Fault.{Fault}
 use Rattle.calcdb.specs.declared.faults.Fault.TheVariants as fault
 use Rattle.calcdb.specs.declared.scripts.ScriptFault.{ScriptFault}
-use Rattle.calcdb.specs.declared.scripts.TheConstants.{SCRIPT_BYTES}
 
 module _ (A : Type 0) where
-  module _ (says : Result Script ScriptFault) (opening : Image) (old new : Option Bytes) where
+  module _ (says : Result Schedule ScriptFault) (opening : Image) (old new : Option Bytes) where
     pub ends_refused : (f r : Fault) → IsRunFault A says opening f → Refuses f old new r → EndsRun A says opening old new r
     ends_refused f fault.Read is h = absurd h
     ends_refused f fault.Write is h = inr (fault_text f, inr (f, is, refl), h)
@@ -28,7 +25,7 @@ module _ (A : Type 0) where
     ends_refused f fault.Size is (same, out) = (subst (IsRunFault A says opening) same is, subst (λ g. Appends old new (fault_text g)) same out)
     ends_refused f (fault.Refused r) is (same, out) = (subst (IsRunFault A says opening) same is, subst (λ g. Appends old new (fault_text g)) same out)
 
-    pub ends_stopped : (s : Script) (f : Fault) → is_opening opening ≡ true → says ≡ Ok s → StopsAs A s opening old new f → EndsRun A says opening old new f
+    pub ends_stopped : (s : Schedule) (f : Fault) → is_opening opening ≡ true → says ≡ Ok s → StopsAs A s opening old new f → EndsRun A says opening old new f
     ends_stopped s f lawful reads (inl (is, out)) = rw is (inl out)
     ends_stopped s fault.Write lawful reads (inr (first, core, text, opened, run, sent)) =
         inr (text, inl (record { lawful = lawful; script = s; reads = reads; first = first; core = core; opened = opened; run = run }), sent)
@@ -39,38 +36,21 @@ module _ (A : Type 0) where
     ends_stopped s fault.Size lawful reads (inr (first, core, text, opened, run, sent)) = absurd sent
     ends_stopped s (fault.Refused r) lawful reads (inr (first, core, text, opened, run, sent)) = absurd sent
 
-same_by : (source text left : Bytes) (v : Bool) → nat_le (length text) SCRIPT_BYTES ≡ v → source ≡ text ++ left → (length text ≤ SCRIPT_BYTES → left ≡ []) → script_of source ≡ script_of text
-unfolding part_of
-same_by source text left true e parts at_end = ap script_of (parts ∙ ap (λ (l : Bytes). text ++ l) (at_end (leb-true (length text) SCRIPT_BYTES e)) ∙ append-nil text)
-same_by source text left false e parts at_end =
-    let long : length source ≡ length text + length left = ap (λ (l : Bytes). length l) parts ∙ length-append text left in
-    let more : SCRIPT_BYTES < length text = leb-false (length text) SCRIPT_BYTES e in
-    let above : SCRIPT_BYTES < length source = omega (arith, long, more) in
-    rw (e, lt-leb (length source) SCRIPT_BYTES above) refl
-
--- what was read says what all of the bytes say
-pub same_reading : (old new : Option Bytes) (source text : Bytes) → old ≡ Some source → Consumes old new text → (length text ≤ SCRIPT_BYTES → IsAtEnd new) → script_of source ≡ script_of text
-same_reading None new source text is h at_end = absurd (cc)
-same_reading (Some xs) None source text is h at_end = absurd h
-same_reading (Some xs) (Some ys) source text is h at_end =
-    let same : xs ≡ source = cc in
-    same_by source text ys (nat_le (length text) SCRIPT_BYTES) refl (sym same ∙ h) at_end
-
 module _ {A : Type 0} where
   -- in the words of the script
-  pub carried_script : (s : Script) (opening : Image) (core new : CoreView) (commands : List (Command (List Bytes))) (text : Bytes) (images : List Image) → IsOpened s.catalog opening core →
+  pub carried_script : (s : Schedule) (opening : Image) (core new : CoreView) (commands : List (Command (List Bytes))) (text : Bytes) (images : List Image) → IsOpened s.catalog opening core →
       commands ≡ s.commands →
       Carried {A = A} (CarriesAll core.catalog commands) core new text images → Carried {A = A} (CarriesAll s.catalog s.commands) core new text images
   carried_script s opening core new commands text images opened same h =
       subst (λ k. Carried {A = A} (CarriesAll k s.commands) core new text images) opened.catalog (subst (λ l. Carried {A = A} (CarriesAll core.catalog l) core new text images) same h)
 
-pub run_script_for : (A : Type 0) (s : Script) (opening : Image) (core new : CoreView) (commands : List (Command (List Bytes))) (text : Bytes) → IsOpened s.catalog opening core →
+pub run_script_for : (A : Type 0) (s : Schedule) (opening : Image) (core new : CoreView) (commands : List (Command (List Bytes))) (text : Bytes) → IsOpened s.catalog opening core →
     commands ≡ s.commands →
     HasRun A core.catalog commands core new text → HasRun A s.catalog s.commands core new text
 run_script_for A s opening core new commands text opened same h =
     subst (λ k. HasRun A k s.commands core new text) opened.catalog (subst (λ l. HasRun A core.catalog l core new text) same h)
 
-module _ (A : Type 0) (says : Result Script ScriptFault) (opening : Image) (old new : Option Bytes) where
+module _ (A : Type 0) (says : Result Schedule ScriptFault) (opening : Image) (old new : Option Bytes) where
   -- a text that is no script
   pub ends_script : (f : ScriptFault) (r : Fault) → is_opening opening ≡ true → (f ≡ script.NoMemory) ⊎ (says ≡ Err f) → RefusesScript f old new r → EndsRun A says opening old new r
   ends_script (script.Line n) r lawful (inl e) h = absurd (cc)

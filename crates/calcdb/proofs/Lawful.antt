@@ -7,7 +7,7 @@ use Rattle.procedure.specs.Bytes.{Bytes}
 use Rattle.procedure.specs.Procedures.{Instruction, Procedure}
 use Rattle.procedure.specs.declared.limits.TheConstants.{ARGUMENTS, INSTRUCTIONS}
 use Rattle.calcdb.specs.Instructions.{instruction_of}
-use Rattle.calcdb.specs.Scripts.{Block, longer_block, with_instruction}
+use Rattle.calcdb.specs.Preambles.{Block, longer_block, with_instruction}
 
 then_none : (f g : Fault) → then_fault f g ≡ None → (f ≡ None) × (g ≡ None)
 then_none None g h = (refl, h)

@@ -1,29 +1,22 @@
--- The table of a text of pairs, line by line, and texts of which a front was read.
-use Rattle.std.proofs.Common.{◌≡◌, ◌⊎◌, inl, inr, ◌≤◌, ◌<◌, ℕ, ◌+◌, Bool, true, false, cond, nat_lt, nat_le, List, [], ◌∷◌, ◌++◌, length, Option, Some, None, Result, Ok, Err, refl, sym, ap}
-use Rattle.std.proofs.Common.{subst, ◌∙◌, arith}
+-- The table of a text of pairs, line by line.
+use Rattle.std.proofs.Common.{◌≡◌, ◌⊎◌, inl, inr, ◌≤◌, ◌<◌, ℕ, ◌+◌, Bool, true, false, cond, nat_lt, List, [], ◌∷◌, Option, Some, None, Result, Ok, Err, refl, subst, arith}
 use Rattle.std.specs.Prelude.{◌&&◌, if◌then◌else◌, is_none}
 use Rattle.std.specs.FinMap as map
 use Rattle.std.specs.FinMap.{contains_key, insert, len, len-empty, len-insert}
 use Rattle.std.specs.Cmp.Lexicographic.{nat_list_cmp_total}
-use Rattle.std.specs.Io.KnownBytes.{Consumes, IsAtEnd}
-use Rattle.std.proofs.lemmas.Bool.{leb-true, leb-false, lt-leb, ltb-true}
-use Rattle.std.proofs.lemmas.List.{append-nil, length-append}
+use Rattle.std.proofs.lemmas.Bool.{ltb-true}
 use Rattle.procedure.specs.Bytes.{Bytes}
 use Rattle.procedure.specs.Table.{Table, value_at}
 use Rattle.image.specs.Images.{Image}
 use Rattle.image.specs.declared.limits.TheConstants.{ENTRIES}
-use Rattle.calcdb.specs.Lines.{all_pass, is_allowed, is_skipped, left_lines, words}
-use Rattle.calcdb.specs.Pairs.{table_after_line, table_after_words, IsLoadFault, image_of_pairs, loaded, pair_of, table_after_lines, table_of_pairs, with_pair}
+use Rattle.calcdb.specs.LineByLine.{after_lines}
+use Rattle.calcdb.specs.Lines.{all_pass, is_allowed, is_skipped, words}
+use Rattle.calcdb.specs.Pairs.{table_after_line, table_after_words, IsLoadFault, pair_of, with_pair}
 use Rattle.calcdb.specs.Outcomes.{HasLine}
 use Rattle.calcdb.specs.Reads.{◌>>=◌}
 use Rattle.calcdb.specs.Refusing.{text_fault}
 use Rattle.calcdb.specs.declared.scripts.ScriptFault.{ScriptFault}
 use Rattle.calcdb.specs.declared.scripts.ScriptFault.TheVariants.{Line, NoMemory, Size}
-use Rattle.calcdb.specs.declared.scripts.TheConstants.{SCRIPT_BYTES}
-
-pub nothing_left : (t : Table) (n : ℕ) (o : Option Bytes) → o ≡ None → table_after_lines t n (left_lines o) ≡ Ok t
-unfolding table_after_lines
-nothing_left t n o is = rw is refl
 
 -- ---- there are never over 100,000 pairs
 
@@ -70,41 +63,20 @@ abbrev MakesFew : Result Table ScriptFault → Type 0
 MakesFew (Ok t) = IsFew t
 MakesFew (Err e) = Unit {0}
 
-few_next : (o : Option Table) (n : ℕ) (ls : List Bytes) → AreFew o → ((u : Table) → IsFew u → MakesFew (table_after_lines u (n + 1) ls)) →
-    MakesFew (elim o [ None ↦ Err (Line n) | Some u ↦ table_after_lines u (n + 1) ls ])
+few_next : (o : Option Table) (n : ℕ) (ls : List Bytes) → AreFew o → ((u : Table) → IsFew u → MakesFew (after_lines table_after_line u (n + 1) ls)) →
+    MakesFew (elim o [ None ↦ Err (Line n) | Some u ↦ after_lines table_after_line u (n + 1) ls ])
 few_next None n ls few rest = tt
 few_next (Some u) n ls few rest = rest u few
 
-few_after : (t : Table) (n : ℕ) (ls : List Bytes) → IsFew t → MakesFew (table_after_lines t n ls)
-unfolding table_after_lines
+few_after : (t : Table) (n : ℕ) (ls : List Bytes) → IsFew t → MakesFew (after_lines table_after_line t n ls)
+unfolding after_lines
 few_after t n [] few = few
 few_after t n (l ∷ ls) few = few_next (table_after_line t l) n ls (few_line t l few) (λ u h. few_after u (n + 1) ls h)
 
-pub few_pairs : (ls : List Bytes) (t : Table) → table_after_lines map.empty 1 ls ≡ Ok t → len t ≤ ENTRIES
+pub few_pairs : (ls : List Bytes) (t : Table) → after_lines table_after_line map.empty 1 ls ≡ Ok t → len t ≤ ENTRIES
 few_pairs ls t is =
     let none = few_after map.empty 1 ls (rw len-empty (omega arith)) in
     subst MakesFew is none
-
--- ---- what was read says what all of the bytes say
-
-same_by : (source text left : Bytes) (v : Bool) → nat_le (length text) SCRIPT_BYTES ≡ v → source ≡ text ++ left → (length text ≤ SCRIPT_BYTES → left ≡ []) → table_of_pairs source ≡ table_of_pairs text
-unfolding table_of_pairs
-same_by source text left true e parts at_end = ap table_of_pairs (parts ∙ ap (λ (l : Bytes). text ++ l) (at_end (leb-true (length text) SCRIPT_BYTES e)) ∙ append-nil text)
-same_by source text left false e parts at_end =
-    let long : length source ≡ length text + length left = ap (λ (l : Bytes). length l) parts ∙ length-append text left in
-    let more : SCRIPT_BYTES < length text = leb-false (length text) SCRIPT_BYTES e in
-    let above : SCRIPT_BYTES < length source = omega (arith, long, more) in
-    rw (e, lt-leb (length source) SCRIPT_BYTES above) refl
-
-same_table : (old new : Option Bytes) (source text : Bytes) → old ≡ Some source → Consumes old new text → (length text ≤ SCRIPT_BYTES → IsAtEnd new) → table_of_pairs source ≡ table_of_pairs text
-same_table None new source text is h at_end = absurd (cc)
-same_table (Some xs) None source text is h at_end = absurd h
-same_table (Some xs) (Some ys) source text is h at_end =
-    let same : xs ≡ source = cc in
-    same_by source text ys (nat_le (length text) SCRIPT_BYTES) refl (sym same ∙ h) at_end
-
-pub same_image : (old new : Option Bytes) (source text : Bytes) → old ≡ Some source → Consumes old new text → (length text ≤ SCRIPT_BYTES → IsAtEnd new) → image_of_pairs source ≡ image_of_pairs text
-same_image old new source text is h at_end = ap loaded (same_table old new source text is h at_end)
 
 -- ---- the fault of a text
 

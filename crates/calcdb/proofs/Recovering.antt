@@ -11,7 +11,7 @@ use Rattle.calcdb.specs.OwnFiles.{OfScript, OfSpelled, OrNoMemory}
 use Rattle.calcdb.specs.Reasons.{Tells, recover_reason}
 use Rattle.calcdb.specs.Recovering.{IsRecovered, OfFiles, OfImages, recovery_in_words, as_fault}
 use Rattle.calcdb.specs.Refusing.{no_memory, text_fault}
-use Rattle.calcdb.specs.Scripts.{catalog_of}
+use Rattle.calcdb.specs.Preambles.{catalog_of}
 use Rattle.calcdb.specs.declared.faults.Fault.{Fault}
 use Rattle.calcdb.specs.declared.faults.Reason.{Reason}
 use Rattle.calcdb.specs.declared.faults.Reason.TheVariants as reason

@@ -11,7 +11,7 @@ use Rattle.calcdb.proofs.Declined.{declined, fails_wider}
 use Rattle.calcdb.specs.Outcomes.{HasLine}
 use Rattle.calcdb.specs.Recovering.{AgreesWithRecovery, EndsRecovery, IsRecoveryFault, IsRecoveryLine, IsRecovered, OfCatalog, as_fault, recovered_image, recovered_line}
 use Rattle.calcdb.specs.Refusing.{Declines, FailsAs, no_memory, text_fault}
-use Rattle.calcdb.specs.Scripts.{catalog_of}
+use Rattle.calcdb.specs.Preambles.{catalog_of}
 use Rattle.calcdb.specs.declared.faults.Fault.{Fault}
 use Rattle.calcdb.specs.declared.faults.Fault.TheVariants as fault
 use Rattle.calcdb.specs.declared.faults.Reason.{Reason}

@@ -1,11 +1,12 @@
 -- What the words of a command line ask for.
-use Rattle.std.specs.Prelude.{◌≡◌, ◌⊎◌, true, codes, fold, List, [], ◌∷◌, map, option_map, Some}
+use Rattle.std.specs.Prelude.{◌≡◌, ◌⊎◌, Bool, true, false, codes, fold, List, [], ◌∷◌, map, option_map, Option, None, Some}
+use Rattle.std.specs.Str.{bytes_eq}
 use Rattle.clap.specs.Faults.{fault_of}
 use Rattle.clap.specs.Kinds.{HasKind}
 use Rattle.clap.specs.Values.{kind_of}
 use Rattle.clap.specs.Walk.{Row, Rule, Text, all_of, first_of}
 use Rattle.clap.specs.Simple.{App, new_app, new_rule, on_top, subcommand_of, with_rule, with_subcommand}
-use Rattle.clap.specs.declared.builder.action.ArgAction.TheVariants.{Append}
+use Rattle.clap.specs.declared.builder.action.ArgAction.TheVariants.{Append, SetTrue}
 use Rattle.clap.specs.declared.error.Error.{Error}
 use Rattle.clap.specs.declared.error.kind.ErrorKind.TheVariants.{MissingSubcommand}
 use Rattle.calcdb.specs.declared.command_line.Task.{Task}
@@ -19,6 +20,10 @@ required name = record (new_rule name) { required = true }
 abbrev pub flagged : Text → Text → Rule
 flagged flag name = record (new_rule name) { long = Some flag }
 
+-- a flag alone, which is given or not
+abbrev pub switched : Text → Text → Rule
+switched flag name = record (new_rule name) { long = Some flag; action = Some SetTrue }
+
 -- one that has to be given, and may be given again
 abbrev pub repeated : Text → Rule
 repeated name = record (required name) { action = Some Append }
@@ -27,9 +32,11 @@ repeated name = record (required name) { action = Some Append }
 abbrev pub app : Text → List Rule → App
 app name rules = fold with_rule (new_app name) rules
 
--- `run SCRIPT [--open IMAGE] [--out DIR]`
+-- `run SCRIPT [--open IMAGE] [--out DIR] [--threads]`
 abbrev pub run_app : App
-run_app = app (codes "run") (required (codes "SCRIPT") ∷ flagged (codes "open") (codes "IMAGE") ∷ flagged (codes "out") (codes "DIR") ∷ [])
+run_app =
+    app (codes "run")
+    (required (codes "SCRIPT") ∷ flagged (codes "open") (codes "IMAGE") ∷ flagged (codes "out") (codes "DIR") ∷ switched (codes "threads") (codes "THREADS") ∷ [])
 
 -- `load PAIRS OUT`
 abbrev pub load_app : App
@@ -53,12 +60,22 @@ calcdb_app =
     let top = on_top (λ s. record s { subcommand_required = true; has_version = true }) (new_app (codes "calcdb")) in
     fold (λ a s. with_subcommand a s.top) top (run_app ∷ load_app ∷ merge_app ∷ recover_app ∷ show_app ∷ [])
 
+-- the text of a flag that was given
+abbrev pub says_true : Option Text → Bool
+says_true None = false
+says_true (Some t) = bytes_eq t (codes "true")
+
+-- a flag alone was given
+abbrev pub is_given : Text → List Row → Bool
+is_given name rows = says_true (first_of name rows)
+
 -- what a command's name and its matches ask for
 abbrev pub AsksFor : Text × List Row → Task → Type 0
 AsksFor given (Run files) =
     (given.0 ≡ codes "run") × (first_of (codes "SCRIPT") given.1 ≡ Some files.script.now)
     × (first_of (codes "IMAGE") given.1 ≡ option_map (λ s. s.now) files.opening)
     × (first_of (codes "DIR") given.1 ≡ option_map (λ s. s.now) files.folder)
+    × (files.threads ≡ is_given (codes "THREADS") given.1)
 AsksFor given (Load pairs out) =
     (given.0 ≡ codes "load") × (first_of (codes "PAIRS") given.1 ≡ Some pairs.now) × (first_of (codes "OUT") given.1 ≡ Some out.now)
 AsksFor given (Merge out images) =

@@ -32,11 +32,11 @@ is_name w = nat_le (length w) 32 && (is_letter (slice_index_or w 0 0) && all_pas
 abbrev pub procedure_of : Names → Bytes → Option ℕ
 procedure_of names w = if is_name w then map.get names w else None
 
--- a session's number, and the words behind it
-abbrev pub session_at : List Bytes → Option (ℕ × List Bytes)
-session_at ws = do
+-- a session's number, at most this, and the words behind it
+abbrev pub session_at : ℕ → List Bytes → Option (ℕ × List Bytes)
+session_at most ws = do
   w ← first_word ws
-  s ← decimal_of 65535 w.0
+  s ← decimal_of most w.0
   Some (s, w.1)
 
 abbrev pub number_at : List Bytes → Option (ℕ × List Bytes)
@@ -51,26 +51,27 @@ procedure_at names ws = do
   p ← procedure_of names w.0
   Some (p, w.1)
 
-unfoldable pub values_of : List Bytes → Option (List Bytes)
-values_of [] = Some []
-values_of (w ∷ ws) = do
-  v ← value_of w
-  vs ← values_of ws
+-- the values that words are, where each is read so
+unfoldable pub values_by : (Bytes → Option Bytes) → List Bytes → Option (List Bytes)
+values_by read [] = Some []
+values_by read (w ∷ ws) = do
+  v ← read w
+  vs ← values_by read ws
   Some (v ∷ vs)
 
--- `S N PROC ARG..`
-unfoldable pub new_call_of : Names → List Bytes → Option (NewCall (List Bytes))
-new_call_of names ws = do
-  s ← session_at ws
+-- `S N PROC ARG..`, where a session is at most this and each argument is read so
+unfoldable pub new_call_of : ℕ → (Bytes → Option Bytes) → Names → List Bytes → Option (NewCall (List Bytes))
+new_call_of most read names ws = do
+  s ← session_at most ws
   n ← number_at s.1
   p ← procedure_at names n.1
-  args ← values_of p.1
+  args ← values_by read p.1
   Some (record { session = s.0; number = n.0; procedure = p.0; args = args })
 
 -- `S` alone
 unfoldable pub session_of : List Bytes → Option ℕ
 session_of ws = do
-  s ← session_at ws
+  s ← session_at 65535 ws
   _ ← no_word s.1
   Some s.0
 
@@ -116,11 +117,11 @@ unfoldable pub command_of : Names → List Bytes → Option (Command (List Bytes
 command_of names ws = do
   c ← command_at ws
   elim c.0 [
-    | named.Begin ↦ (new_call_of names c.1 >>= λ n. Some (command.Begin n))
+    | named.Begin ↦ (new_call_of 65535 value_of names c.1 >>= λ n. Some (command.Begin n))
     | named.Step ↦ (session_of c.1 >>= λ s. Some (command.Step s))
     | named.Finish ↦ (session_of c.1 >>= λ s. Some (command.Finish s))
     | named.GiveUp ↦ (session_of c.1 >>= λ s. Some (command.GiveUp s))
-    | named.Call ↦ (new_call_of names c.1 >>= λ n. Some (command.Call n))
+    | named.Call ↦ (new_call_of 65535 value_of names c.1 >>= λ n. Some (command.Call n))
     | named.Start ↦ (kind_in c.1 >>= λ k. Some (command.Start k))
     | named.Advance ↦ without_arguments command.Advance c.1
     | named.Capture ↦ without_arguments command.Capture c.1

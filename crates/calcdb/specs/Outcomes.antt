@@ -8,7 +8,7 @@ use Rattle.image.specs.Openings.{is_opening}
 use Rattle.steps.specs.Openings.{IsOpened}
 use Rattle.calcdb.specs.Reasons.{reason_text}
 use Rattle.calcdb.specs.Runs.{Carried, CarriesAll, HasRun, Images, Sent}
-use Rattle.calcdb.specs.Scripts.{Script}
+use Rattle.calcdb.specs.Scripts.{Schedule}
 use Rattle.procedure.specs.Streams.{IsBegun}
 use Rattle.calcdb.specs.declared.faults.Fault.{Fault}
 use Rattle.calcdb.specs.declared.faults.Fault.TheVariants as fault
@@ -27,18 +27,18 @@ fault_text fault.NoMemory = []
 
 module _ (A : Type 0) where
   -- the opening is one, the text is a script, and all of its commands were carried out on a core that was opened so
-  pub record RunsTo (says : Result Script ScriptFault) (opening : Image) (core : CoreView) (text : Bytes) (images : Images) : Type 0 where
+  pub record RunsTo (says : Result Schedule ScriptFault) (opening : Image) (core : CoreView) (text : Bytes) (images : Images) : Type 0 where
     pub lawful : is_opening opening ≡ true
-    pub script : Script
+    pub script : Schedule
     pub reads : says ≡ Ok script
     pub first : CoreView
     pub opened : IsOpened script.catalog opening first
     pub carried : Carried {A = A} (CarriesAll script.catalog script.commands) first core text images
 
   -- some of them were, from the front on
-  pub record RunsFor (says : Result Script ScriptFault) (opening : Image) (text : Bytes) : Type 0 where
+  pub record RunsFor (says : Result Schedule ScriptFault) (opening : Image) (text : Bytes) : Type 0 where
     pub lawful : is_opening opening ≡ true
-    pub script : Script
+    pub script : Schedule
     pub reads : says ≡ Ok script
     pub first : CoreView
     pub core : CoreView
@@ -46,7 +46,7 @@ module _ (A : Type 0) where
     pub run : HasRun A script.catalog script.commands first core text
 
   -- the fault comes first: of the opening, and then of the text
-  abbrev pub IsRunFault : Result Script ScriptFault → Image → Fault → Type 0
+  abbrev pub IsRunFault : Result Schedule ScriptFault → Image → Fault → Type 0
   IsRunFault says opening (fault.Line n) = (is_opening opening ≡ true) × (says ≡ Err (Line n))
   IsRunFault says opening fault.Size = (is_opening opening ≡ true) × (says ≡ Err Size)
   IsRunFault says opening (fault.Refused r) = (is_opening opening ≡ false) × (r ≡ NotAnOpening)
@@ -55,15 +55,15 @@ module _ (A : Type 0) where
   IsRunFault says opening fault.NoMemory = ⊥
 
   -- a text of which a run that was stopped may have written a beginning
-  abbrev pub IsText : Result Script ScriptFault → Image → Bytes → Type 0
+  abbrev pub IsText : Result Schedule ScriptFault → Image → Bytes → Type 0
   IsText says opening text = RunsFor says opening text ⊎ ((f : Fault) × IsRunFault says opening f × (text ≡ fault_text f))
 
   -- nothing went out, or a beginning of such a text
-  abbrev pub IsStopped : Result Script ScriptFault → Image → Option Bytes → Option Bytes → Type 0
+  abbrev pub IsStopped : Result Schedule ScriptFault → Image → Option Bytes → Option Bytes → Type 0
   IsStopped says opening old new = Appends old new [] ⊎ ((text : Bytes) × IsText says opening text × IsBegun old new text)
 
   -- what went out by the time of a fault
-  abbrev pub EndsRun : Result Script ScriptFault → Image → Option Bytes → Option Bytes → Fault → Type 0
+  abbrev pub EndsRun : Result Schedule ScriptFault → Image → Option Bytes → Option Bytes → Fault → Type 0
   EndsRun says opening old new (fault.Line n) = IsRunFault says opening (fault.Line n) × Appends old new (fault_text (fault.Line n))
   EndsRun says opening old new fault.Size = IsRunFault says opening fault.Size × Appends old new (fault_text fault.Size)
   EndsRun says opening old new (fault.Refused r) = IsRunFault says opening (fault.Refused r) × Appends old new (fault_text (fault.Refused r))
@@ -72,7 +72,7 @@ module _ (A : Type 0) where
   EndsRun says opening old new fault.NoMemory = IsStopped says opening old new
 
   -- how a script's run stops: before the core is opened, or after some of the commands
-  abbrev pub StopsAs : Script → Image → Option Bytes → Option Bytes → Fault → Type 0
+  abbrev pub StopsAs : Schedule → Image → Option Bytes → Option Bytes → Fault → Type 0
   StopsAs script opening old new f =
       ((f ≡ fault.NoMemory) × Appends old new [])
       ⊎ ((first : CoreView) × (core : CoreView) × (text : Bytes) × IsOpened script.catalog opening first × HasRun A script.catalog script.commands first core text × Sent (Err f) old new text)

@@ -22,7 +22,7 @@ use Rattle.steps.specs.CoreViews.{CoreView}
 use Rattle.calcdb.specs.ImageFiles.{Spell}
 use Rattle.calcdb.specs.Recovering.{recovery_in_words, as_fault, recovered_image}
 use Rattle.calcdb.specs.Refusing.{no_memory}
-use Rattle.calcdb.specs.Scripts.{catalog_of}
+use Rattle.calcdb.specs.Preambles.{catalog_of}
 use Rattle.calcdb.specs.declared.faults.Fault.{Fault}
 use Rattle.calcdb.specs.declared.faults.Fault.TheVariants as fault
 use Rattle.calcdb.specs.declared.faults.Reason.{Reason}

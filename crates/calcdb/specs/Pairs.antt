@@ -1,14 +1,14 @@
 -- The table that the pairs of a text make, and the image that it is loaded as.
-use Rattle.std.specs.Prelude.{◌≡◌, ℕ, ◌+◌, ◌&&◌, if◌then◌else◌, nat_lt, nat_le, List, [], ◌∷◌, length, Option, Some, None, is_none, Result, Ok, Err}
+use Rattle.std.specs.Prelude.{◌≡◌, ◌&&◌, if◌then◌else◌, nat_lt, nat_le, List, length, Option, Some, None, is_none, Result, Ok, Err}
 use Rattle.std.specs.FinMap as map
 use Rattle.procedure.specs.Bytes.{Bytes}
 use Rattle.procedure.specs.Table.{Table, value_at}
-use Rattle.procedure.specs.declared.limits.TheConstants.{KEY_BYTES, VALUE_BYTES}
 use Rattle.image.specs.Images.{Image, full_image}
 use Rattle.image.specs.declared.limits.TheConstants.{ENTRIES}
 use Rattle.calcdb.specs.Reads.{◌>>=◌}
 use Rattle.calcdb.specs.Lines.{all_pass, first_word, is_allowed, is_skipped, lines, no_word, words}
-use Rattle.calcdb.specs.Values.{value_of}
+use Rattle.calcdb.specs.LineByLine.{after_lines}
+use Rattle.calcdb.specs.Values.{held_value_of, key_of}
 use Rattle.calcdb.specs.Output.{header_line}
 use Rattle.calcdb.specs.Refusing.{FailsAs}
 use Rattle.calcdb.specs.declared.faults.Fault.{Fault}
@@ -17,20 +17,6 @@ use Rattle.calcdb.specs.declared.faults.Reason.TheVariants as reason
 use Rattle.calcdb.specs.declared.scripts.ScriptFault.{ScriptFault}
 use Rattle.calcdb.specs.declared.scripts.ScriptFault.TheVariants.{Line, Size}
 use Rattle.calcdb.specs.declared.scripts.TheConstants.{SCRIPT_BYTES}
-
--- a key has 1 to 32 bytes
-abbrev pub as_key : Bytes → Option Bytes
-as_key bytes = if nat_lt 0 (length bytes) && nat_le (length bytes) KEY_BYTES then Some bytes else None
-
-abbrev pub key_of : Bytes → Option Bytes
-key_of word = value_of word >>= as_key
-
--- what a key holds has at most 65,535 bytes
-abbrev pub as_held : Bytes → Option Bytes
-as_held bytes = if nat_le (length bytes) VALUE_BYTES then Some bytes else None
-
-abbrev pub held_value_of : Bytes → Option Bytes
-held_value_of word = value_of word >>= as_held
 
 -- `KEY VALUE`
 unfoldable pub pair_of : List Bytes → Option (Bytes × Bytes)
@@ -54,14 +40,9 @@ table_after_words t ws = if is_skipped ws then Some t else (pair_of ws >>= with_
 abbrev pub table_after_line : Table → Bytes → Option Table
 table_after_line t line = if all_pass is_allowed line then table_after_words t (words line) else None
 
--- the table after these lines, which are numbered from n on, or the first of them that is faulty
-unfoldable pub table_after_lines : Table → ℕ → List Bytes → Result Table ScriptFault
-table_after_lines t n [] = Ok t
-table_after_lines t n (l ∷ ls) = elim (table_after_line t l) [ None ↦ Err (Line n) | Some u ↦ table_after_lines u (n + 1) ls ]
-
 -- the table of a text of at most 4,194,304 bytes, or its fault
 unfoldable pub table_of_pairs : Bytes → Result Table ScriptFault
-table_of_pairs text = if nat_le (length text) SCRIPT_BYTES then table_after_lines map.empty 1 (lines text) else Err Size
+table_of_pairs text = if nat_le (length text) SCRIPT_BYTES then after_lines table_after_line map.empty 1 (lines text) else Err Size
 
 -- the opening image of a table: full, with number, base and place 0
 abbrev pub loaded : Result Table ScriptFault → Result Image ScriptFault

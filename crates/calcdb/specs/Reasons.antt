@@ -10,7 +10,7 @@ use Rattle.image.specs.declared.merges.MergeError.TheVariants as merge
 use Rattle.replay.specs.declared.errors.RecoverError.{RecoverError}
 use Rattle.replay.specs.declared.errors.RecoverError.TheVariants as recover
 use Rattle.calcdb.specs.declared.faults.Reason.{Reason}
-use Rattle.calcdb.specs.declared.faults.Reason.TheVariants.{NotAnImage, BadDigest, BadBlock, BadForm, TooMany, NotFull, NotPartial, Gap, NotALog, Damaged, WrongCatalog, WrongOpening, PlaceOutside, Diverged, NotAnOpening, NoMemory}
+use Rattle.calcdb.specs.declared.faults.Reason.TheVariants.{NotAnImage, BadDigest, BadBlock, BadForm, TooMany, NotFull, NotPartial, Gap, NotALog, Damaged, WrongCatalog, WrongOpening, PlaceOutside, Diverged, NotAnOpening, NoView, NoMemory}
 
 abbrev pub reason_text : Reason → Bytes
 reason_text NotAnImage = codes "not an image"
@@ -28,6 +28,7 @@ reason_text WrongOpening = codes "wrong opening"
 reason_text PlaceOutside = codes "place outside"
 reason_text (Diverged p) = codes "diverged " ++ decimal p
 reason_text NotAnOpening = codes "not an opening"
+reason_text NoView = codes "no view"
 reason_text NoMemory = codes "no memory"
 
 -- bytes that aren't read as an image

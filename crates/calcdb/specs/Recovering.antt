@@ -9,7 +9,7 @@ use Rattle.replay.specs.declared.errors.RecoverError.{RecoverError}
 use Rattle.calcdb.specs.ImageFiles.{AreRead}
 use Rattle.calcdb.specs.Reasons.{recover_reason}
 use Rattle.calcdb.specs.Refusing.{FailsAs, no_memory, text_fault}
-use Rattle.calcdb.specs.Scripts.{catalog_of}
+use Rattle.calcdb.specs.Preambles.{catalog_of}
 use Rattle.calcdb.specs.declared.faults.Fault.{Fault}
 use Rattle.calcdb.specs.declared.faults.Fault.TheVariants as fault
 use Rattle.calcdb.specs.declared.faults.Reason.{Reason}

@@ -1,9 +1,10 @@
 -- Decimals and values.
-use Rattle.std.specs.Prelude.{ℕ, ◌+◌, ◌-◌, ◌*◌, ◌^◌, ◌==◌, ◌&&◌, if◌then◌else◌, nat_le, [], ◌∷◌, length, Option, Some, None}
+use Rattle.std.specs.Prelude.{ℕ, ◌+◌, ◌-◌, ◌*◌, ◌^◌, ◌==◌, ◌&&◌, if◌then◌else◌, nat_le, nat_lt, [], ◌∷◌, length, Option, Some, None}
 use Rattle.std.specs.Result.{result_ok}
 use Rattle.byteorder.specs.Endian.{big_bytes}
 use Rattle.hex.specs.Hex.{decode_of}
 use Rattle.procedure.specs.Bytes.{Bytes}
+use Rattle.procedure.specs.declared.limits.TheConstants.{KEY_BYTES, VALUE_BYTES}
 use Rattle.calcdb.specs.Reads.{◌>>=◌}
 
 -- the value of a decimal digit
@@ -41,3 +42,17 @@ hex_of digits = result_ok (decode_of digits)
 unfoldable pub value_of : Bytes → Option Bytes
 value_of [] = None
 value_of (b ∷ bs) = if b == 35 then number_value_of bs else if b == 39 then Some bs else if b == 120 then hex_of bs else None
+
+-- a key has 1 to 32 bytes
+abbrev pub as_key : Bytes → Option Bytes
+as_key bytes = if nat_lt 0 (length bytes) && nat_le (length bytes) KEY_BYTES then Some bytes else None
+
+abbrev pub key_of : Bytes → Option Bytes
+key_of word = value_of word >>= as_key
+
+-- what a key holds has at most 65,535 bytes
+abbrev pub as_held : Bytes → Option Bytes
+as_held bytes = if nat_le (length bytes) VALUE_BYTES then Some bytes else None
+
+abbrev pub held_value_of : Bytes → Option Bytes
+held_value_of word = value_of word >>= as_held

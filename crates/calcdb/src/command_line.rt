@@ -26,6 +26,8 @@ pub(crate) struct RunFiles<'a> {
     pub opening: Option<&'a str>,
     /// The folder for the images and the log.
     pub folder: Option<&'a str>,
+    /// Whether it is run in threads.
+    pub threads: bool,
 }
 
 /// What the program is asked to do, with the names of files.
@@ -73,6 +75,17 @@ fn flagged<'a>(alloc: Global, flag: &'a str, name: &'a str, help: &'a str) -> Ar
     Arg::new(alloc, name).long(flag).help(help)
 }
 
+/// A flag alone, which is given or not.
+fn switched<'a>(alloc: Global, flag: &'a str, name: &'a str, help: &'a str) -> Arg<'a>
+    ensures rule { rule_of result ≡ spec.switched flag.now name.now }
+    ensures local { result.global ≡ false }
+{
+    Arg::new(alloc, name)
+        .long(flag)
+        .action(ArgAction::SetTrue)
+        .help(help)
+}
+
 /// One that has to be given, and may be given again.
 fn repeated<'a>(alloc: Global, name: &'a str, help: &'a str) -> Arg<'a>
     ensures rule { rule_of result ≡ spec.repeated name.now }
@@ -89,7 +102,8 @@ fn described_run<'a>(alloc: Global) -> Result<Command<'a>, AllocError>
         .about("Runs a script, and prints one answer for each command")
         .arg(required(alloc, "SCRIPT", "the file with the script"))?
         .arg(flagged(alloc, "open", "IMAGE", "the image to open from"))?
-        .arg(flagged(alloc, "out", "DIR", "the folder for the images and the log"))
+        .arg(flagged(alloc, "out", "DIR", "the folder for the images and the log"))?
+        .arg(switched(alloc, "threads", "THREADS", "runs it in threads"))
 }
 
 fn described_load<'a>(alloc: Global) -> Result<Command<'a>, AllocError>
@@ -210,6 +224,16 @@ fn given_perhaps<'a>(given: &ArgMatches<'a>, name: &str) -> Option<&'a str>
     given.get_str(name)
 }
 
+/// Whether this flag was given.
+fn is_given<'a>(given: &ArgMatches<'a>, name: &str) -> bool
+    ensures { result ≡ spec.is_given name.now (rows_of (found_of given.now)) }
+{
+    match given.get_str(name) {
+        Some(text) => text == "true",
+        None => false,
+    }
+}
+
 /// What `run` asks for with these arguments.
 fn asked_run<'a>(given: &ArgMatches<'a>) -> Result<Task<'a>, Unasked>
     ensures task { IfOk result (λ t. AsksFor (codes "run", rows_of (found_of given.now)) t) }
@@ -219,6 +243,7 @@ fn asked_run<'a>(given: &ArgMatches<'a>) -> Result<Task<'a>, Unasked>
         script: given_once(given, "SCRIPT")?,
         opening: given_perhaps(given, "IMAGE"),
         folder: given_perhaps(given, "DIR"),
+        threads: is_given(given, "THREADS"),
     }))
 }
 

@@ -1,9 +1,10 @@
 //! Lines of commands.
 
-ghost use Rattle.std.specs.Prelude.{◌≡◌, ◌-◌, ◌^◌, List, map};
+ghost use Rattle.std.specs.Prelude.{◌≡◌, List, map};
 ghost use Rattle.calcdb.specs.Reads.{ReadsAs};
 ghost use Rattle.calcdb.specs.Commands as spec;
 ghost use Rattle.calcdb.specs.Lines.{all_pass, words};
+ghost use Rattle.calcdb.specs.Values.{value_of};
 
 use crate::faults::unread::Unread;
 use crate::instructions::is_word;
@@ -137,21 +138,38 @@ pub(crate) fn number_of_name<A: Allocator>(names: &Names<A>, word: &[u8]) -> Opt
     }
 }
 
-fn session_at(line: &[u8]) -> Result<(u16, &[u8]), Unread>
-    ensures { ReadsAs (λ p. (p.0, words p.1.now)) result (spec.session_at (words line.now)) }
-{
-    let (word, rest) = word_at(line)?;
-    Ok((decimal_of(65_535, word)? as u16, rest))
+/// A kind of commands, as the words of a line are read.
+pub(crate) trait ReadCommand<A: Allocator>: Sized {
+    ghost use Rattle.std.specs.Prelude.{List, Option};
+    ghost use Rattle.procedure.specs.Bytes.{Bytes};
+    ghost use Rattle.calcdb.specs.Commands.{Names};
+    ghost use Rattle.calcdb.specs.Lines.{words};
+    ghost use Rattle.calcdb.specs.Reads.{ReadsAs};
+
+    /// The command that words are, where the procedures have these names.
+    ghost reads: { Names → List Bytes → Option Self };
+
+    /// The command that a line is.
+    fn read(alloc: A, names: &Names<A>, line: &[u8]) -> Result<Self, Unread>
+        ensures { ReadsAs (λ c. c) result (reads names.now (words line.now)) };
 }
 
-fn number_at(line: &[u8]) -> Result<(u64, &[u8]), Unread>
+/// A session's number, at most this.
+pub(crate) fn session_at(most: u16, line: &[u8]) -> Result<(u16, &[u8]), Unread>
+    ensures { ReadsAs (λ p. (p.0, words p.1.now)) result (spec.session_at most (words line.now)) }
+{
+    let (word, rest) = word_at(line)?;
+    Ok((decimal_of(u64::from(most), word)? as u16, rest))
+}
+
+pub(crate) fn number_at(line: &[u8]) -> Result<(u64, &[u8]), Unread>
     ensures { ReadsAs (λ p. (p.0, words p.1.now)) result (spec.number_at (words line.now)) }
 {
     let (word, rest) = word_at(line)?;
     Ok((decimal_of(u64::MAX, word)?, rest))
 }
 
-fn procedure_at<'a, A: Allocator>(
+pub(crate) fn procedure_at<'a, A: Allocator>(
     names: &Names<A>,
     line: &'a [u8],
 ) -> Result<(u16, &'a [u8]), Unread>
@@ -164,7 +182,7 @@ fn procedure_at<'a, A: Allocator>(
 
 /// The values that the words of a line are.
 fn arguments_of<A: Allocator + Clone>(alloc: A, line: &[u8]) -> Result<Arguments<A>, Unread>
-    ensures { ReadsAs (λ a. a) result (spec.values_of (words line.now)) }
+    ensures { ReadsAs (λ a. a) result (spec.values_by value_of (words line.now)) }
 {
     let mut values = Vec::new(alloc.clone()?);
     let mut rest = line;
@@ -182,9 +200,9 @@ fn call_of<A: Allocator + Clone>(
     names: &Names<A>,
     line: &[u8],
 ) -> Result<NewCall<Arguments<A>>, Unread>
-    ensures { ReadsAs (λ c. c) result (spec.new_call_of names.now (words line.now)) }
+    ensures { ReadsAs (λ c. c) result (spec.new_call_of 65535 value_of names.now (words line.now)) }
 {
-    let (session, rest) = session_at(line)?;
+    let (session, rest) = session_at(u16::MAX, line)?;
     let (number, rest) = number_at(rest)?;
     let (procedure, rest) = procedure_at(names, rest)?;
     let args = arguments_of(alloc, rest)?;
@@ -201,7 +219,7 @@ fn call_of<A: Allocator + Clone>(
 fn session_of(line: &[u8]) -> Result<u16, Unread>
     ensures { ReadsAs (λ s. s) result (spec.session_of (words line.now)) }
 {
-    let (session, rest) = session_at(line)?;
+    let (session, rest) = session_at(u16::MAX, line)?;
     end_of(rest)?;
     Ok(session)
 }
@@ -220,7 +238,7 @@ fn kind_named(word: &[u8]) -> Result<Kind, Unread>
 
 /// A kind of checkpoint alone.
 #[tactic(auto, unfolding(crate::specs::Commands::kind_in))]
-fn kind_of(line: &[u8]) -> Result<Kind, Unread>
+pub(crate) fn kind_of(line: &[u8]) -> Result<Kind, Unread>
     ensures { ReadsAs (λ k. k) result (spec.kind_in (words line.now)) }
 {
     let (word, rest) = word_at(line)?;
@@ -281,7 +299,7 @@ fn command_at(line: &[u8]) -> Result<(CommandName, &[u8]), Unread>
 
 /// The command that a line is.
 #[tactic(auto, unfolding(crate::specs::Commands::command_of))]
-pub(crate) fn command_of<A: Allocator + Clone>(
+fn command_of<A: Allocator + Clone>(
     alloc: A,
     names: &Names<A>,
     line: &[u8],
@@ -302,5 +320,13 @@ pub(crate) fn command_of<A: Allocator + Clone>(
         CommandName::TakeImage => alone(Command::TakeImage, rest),
         CommandName::Reclaim => alone(Command::Reclaim, rest),
         CommandName::Abandon => alone(Command::Abandon, rest),
+    }
+}
+
+impl<A: Allocator + Clone> ReadCommand<A> for Command<Arguments<A>> {
+    ghost reads = { spec.command_of };
+
+    fn read(alloc: A, names: &Names<A>, line: &[u8]) -> Result<Self, Unread> {
+        command_of(alloc, names, line)
     }
 }

@@ -7,7 +7,7 @@ ghost use Rattle.image.specs.Openings.{is_opening};
 ghost use Rattle.steps.specs.Openings.{IsOpened};
 ghost use Rattle.steps.specs.CoreViews.{CoreView};
 ghost use Rattle.calcdb.specs.Outcomes.{EndsRun, RefusesScript, RunsTo, StopsAs};
-ghost use Rattle.calcdb.specs.Scripts.{script_of};
+ghost use Rattle.calcdb.specs.Scripts.{schedule_of};
 ghost use Rattle.calcdb.specs.Runs.{Carried, CarriesAll, HasRun, Sent};
 ghost use Rattle.calcdb.specs.declared.faults.Fault.TheVariants as fault;
 
@@ -15,7 +15,7 @@ use crate::commands::{Arguments, Command};
 use crate::faults::refusals::write_fault;
 use crate::faults::{Fault, Reason};
 use crate::run::run_commands;
-use crate::scripts::{SCRIPT_BYTES, Script, ScriptFault, read_script};
+use crate::scripts::{SCRIPT_BYTES, Schedule, Script, ScriptFault, read_schedule};
 use image::Image;
 use procedure::streams::{Unread, read_past};
 use std::alloc::Allocator;
@@ -30,7 +30,7 @@ pub(crate) struct Ran<A: Allocator> {
 }
 
 /// Writes the one line of a text that is no script.
-fn refuse_script<W: Write, A: Allocator + Clone>(
+pub(crate) fn refuse_script<W: Write, A: Allocator + Clone>(
     alloc: A,
     writer: &mut W,
     fault: ScriptFault,
@@ -67,7 +67,7 @@ fn run_on<W: Write, A: Allocator + Copy>(
 fn run_opened<W: Write, A: Allocator + Copy>(
     alloc: A,
     writer: &mut W,
-    script: Script<A>,
+    script: Schedule<A>,
     opening: Image<A>,
 ) -> Result<Ran<A>, Fault>
     requires { is_opening opening ≡ true }
@@ -90,10 +90,10 @@ fn run_text<W: Write, A: Allocator + Copy>(
     opening: Image<A>,
 ) -> Result<Ran<A>, Fault>
     requires { is_opening opening ≡ true }
-    ensures run { IfOk result (λ r. (out : Bytes) × RunsTo A (script_of text.now) opening r.core out r.images.items × Appends (W.contents writer.old) (W.contents writer.new) out) }
-    ensures fault { IfErr result (λ f. EndsRun A (script_of text.now) opening (W.contents writer.old) (W.contents writer.new) f) }
+    ensures run { IfOk result (λ r. (out : Bytes) × RunsTo A (schedule_of text.now) opening r.core out r.images.items × Appends (W.contents writer.old) (W.contents writer.new) out) }
+    ensures fault { IfErr result (λ f. EndsRun A (schedule_of text.now) opening (W.contents writer.old) (W.contents writer.new) f) }
 {
-    match read_script(alloc, text) {
+    match read_schedule(alloc, text) {
         Ok(script) => run_opened(alloc, writer, script, opening),
         Err(fault) => Err(refuse_script(alloc, writer, fault)),
     }
@@ -111,9 +111,9 @@ pub(crate) fn run_script<R: Read, W: Write, A: Allocator + Copy>(
 ) -> Result<Ran<A>, Fault>
     // Where the reader tells its bytes: all of the script was carried out, its answers written, and the images
     // are those that it took.
-    ensures run { IfOk result (λ r. (source : Bytes) → R.remaining reader.old ≡ Some source → (text : Bytes) × RunsTo A (script_of source) opening r.core text r.images.items × Appends (W.contents writer.old) (W.contents writer.new) text) }
+    ensures run { IfOk result (λ r. (source : Bytes) → R.remaining reader.old ≡ Some source → (text : Bytes) × RunsTo A (schedule_of source) opening r.core text r.images.items × Appends (W.contents writer.old) (W.contents writer.new) text) }
     // And else the one line of the fault, or a beginning of the answers.
-    ensures fault { IfErr result (λ f. (source : Bytes) → R.remaining reader.old ≡ Some source → EndsRun A (script_of source) opening (W.contents writer.old) (W.contents writer.new) f) }
+    ensures fault { IfErr result (λ f. (source : Bytes) → R.remaining reader.old ≡ Some source → EndsRun A (schedule_of source) opening (W.contents writer.old) (W.contents writer.new) f) }
 {
     if !opening.is_opening() {
         let refused = Fault::Refused(Reason::NotAnOpening);

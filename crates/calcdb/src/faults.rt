@@ -89,6 +89,7 @@ pub(crate) enum Reason {
     PlaceOutside,
     Diverged(usize),
     NotAnOpening,
+    NoView,
     NoMemory,
 }
 
@@ -114,6 +115,7 @@ impl fmt::Display for Reason {
             Reason::PlaceOutside => write!(f, "place outside"),
             Reason::Diverged(place) => write!(f, "diverged {place}"),
             Reason::NotAnOpening => write!(f, "not an opening"),
+            Reason::NoView => write!(f, "no view"),
             Reason::NoMemory => write!(f, "no memory"),
         }
     }

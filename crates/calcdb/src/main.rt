@@ -1,8 +1,8 @@
 //! The program `calcdb`: it runs scripts of calls and checkpoints on an engine's core, loads pairs as
 //! images, merges images, recovers tables from images and logs, and prints both.
 //!
-//! The definitions are in `specs/`: the text of a script (`Lines`, `Values`, `Instructions`,
-//! `Commands`, `Scripts`), the text of answers (`Output`, `Reasons`), what commands do to a core
+//! The definitions are in `specs/`: the text of a script (`Lines`, `LineByLine`, `Values`,
+//! `Instructions`, `Preambles`, `Commands`, `ThreadCommands`, `Scripts`), the text of answers (`Output`, `Reasons`), what commands do to a core
 //! (`Runs`), how a run ends (`Outcomes`), the image of a text of pairs (`Pairs`), what files of images
 //! say, merged and recovered with a log (`ImageFiles`, `Merging`, `Recovering`, `OwnFiles`), what a file
 //! prints (`Showing`), how these commands end (`Refusing`), and the command line (`CommandLines`).
@@ -10,16 +10,21 @@
 
 mod command_line;
 mod commands;
+mod core_audits;
 mod engine;
 mod faults;
 mod files;
 mod image_files;
 mod instructions;
 mod laws;
+mod line_by_line;
 mod lines;
+mod looking;
 mod merge_files;
 mod output;
 mod pairs;
+mod plans;
+mod preambles;
 mod program;
 mod recover_files;
 mod run;
@@ -28,11 +33,14 @@ mod scripts;
 mod show;
 #[cfg(test)]
 mod tests;
+mod thread_commands;
+mod thread_output;
+mod threads;
 mod values;
 
 use std::process::ExitCode;
 
 fn main(rt: HostRuntime) -> ExitCode {
     let mut err = rt.stderr();
-    ExitCode::from(program::start(rt.alloc(), &rt, &rt, rt.stdout(), &mut err))
+    ExitCode::from(program::start(rt.alloc(), &rt, &rt, &rt, rt.stdout(), &mut err))
 }

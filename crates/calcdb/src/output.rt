@@ -72,7 +72,7 @@ pub(crate) fn push_value<A: Allocator + Clone>(
 }
 
 /// A value, or `-`.
-fn push_cell<A: Allocator + Clone, B: Allocator>(
+pub(crate) fn push_cell<A: Allocator + Clone, B: Allocator>(
     out: &mut Vec<u8, A>,
     cell: &Option<Value<B>>,
 ) -> Result<(), NoMemory>

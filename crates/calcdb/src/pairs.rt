@@ -1,45 +1,31 @@
 //! Texts of pairs, which are loaded as opening images.
 
-ghost use Rattle.std.specs.Prelude.{◌≡◌, ◌⊎◌, ◌<◌, ◌≤◌, ◌+◌, Err, IfErr, IfOk, IfSome, Ok, Some, length, option_map};
+ghost use Rattle.std.specs.Prelude.{◌≡◌, ◌≤◌, IfErr, IfOk, Ok, Some};
 ghost use Rattle.std.specs.FinMap as map;
 ghost use Rattle.std.specs.Io.KnownBytes.{Appends};
 ghost use Rattle.procedure.specs.Bytes.{Bytes};
 ghost use Rattle.image.specs.declared.limits.TheConstants.{ENTRIES};
-ghost use Rattle.calcdb.specs.Lines.{left_lines, lines, words};
+ghost use Rattle.calcdb.specs.LineByLine.{TellsScript};
+ghost use Rattle.calcdb.specs.Lines.{words};
 ghost use Rattle.calcdb.specs.Output.{header_line};
 ghost use Rattle.calcdb.specs.Pairs as spec;
 ghost use Rattle.calcdb.specs.Pairs.{EndsLoad, image_of_pairs};
 ghost use Rattle.calcdb.specs.Reads.{ReadsAs};
-ghost use Rattle.calcdb.specs.Scripts.{TellsScript};
-ghost use Rattle.calcdb.specs.declared.scripts.ScriptFault.TheVariants as script_fault;
 
 use crate::faults::refusals::{refuse, write_header};
 use crate::faults::unread::Unread;
 use crate::faults::{Fault, Reason};
-use crate::lines::{end_of, is_allowed, is_skipped, line_at, without_return, word_at};
+use crate::line_by_line::{LineReader, read_lines};
+use crate::lines::{end_of, is_allowed, is_skipped, word_at};
 use crate::scripts::{SCRIPT_BYTES, ScriptFault};
-use crate::values::value_of;
+use crate::values::{held_of, key_of};
 use image::limits::ENTRIES;
 use image::{Image, OpeningError};
 use procedure::streams::{self, read_past};
 use procedure::{Key, KeyMap, Table, Value};
 use std::alloc::Allocator;
 use std::io::{Read, Write};
-
-/// The key that a word is.
-fn key_of<A: Allocator>(alloc: A, word: &[u8]) -> Result<Key, Unread>
-    ensures { ReadsAs (λ k. k) result (spec.key_of word.now) }
-{
-    let bytes = value_of(alloc, word)?;
-    Key::new(bytes.as_slice()).ok_or(Unread::Faulty)
-}
-
-/// What a key holds, as a word.
-fn held_of<A: Allocator>(alloc: A, word: &[u8]) -> Result<Value<A>, Unread>
-    ensures { ReadsAs (λ v. v) result (spec.held_value_of word.now) }
-{
-    Value::new(value_of(alloc, word)?).ok_or(Unread::Faulty)
-}
+use std::marker::Model;
 
 /// The key and the value that a line is.
 #[tactic(auto, unfolding(crate::specs::Pairs::pair_of))]
@@ -54,83 +40,60 @@ fn pair_of<A: Allocator + Clone>(alloc: A, line: &[u8]) -> Result<(Key, Value<A>
     Ok((key, held))
 }
 
-/// One pair more, of a new key.
-fn add_pair<A: Allocator + Clone>(
-    table: &mut Table<A>,
-    key: Key,
-    held: Value<A>,
-) -> Result<(), Unread>
-    ensures { ReadsAs (λ _. table.new) result (spec.with_pair table.old (key, held)) }
-{
-    if table.len() >= ENTRIES || table.get(&key).is_some() {
-        return Err(Unread::Faulty);
-    }
-    table.insert(key, held)?;
-    Ok(())
-}
-
-/// A line without a fault of its bytes.
-fn read_words<A: Allocator + Clone>(
+/// The pairs that lines have said so far, and what the memory for more is taken from.
+#[derive(Drop)]
+struct Pairs<A: Allocator> {
     alloc: A,
-    table: &mut Table<A>,
-    line: &[u8],
-) -> Result<(), Unread>
-    ensures { ReadsAs (λ _. table.new) result (spec.table_after_words table.old (words line.now)) }
-{
-    if is_skipped(line) {
-        return Ok(());
-    }
-    let (key, held) = pair_of(alloc, line)?;
-    add_pair(table, key, held)
+    table: Table<A>,
 }
 
-/// One line more.
-fn read_line<A: Allocator + Clone>(
-    alloc: A,
-    table: &mut Table<A>,
-    line: &[u8],
-) -> Result<(), Unread>
-    ensures { ReadsAs (λ _. table.new) result (spec.table_after_line table.old line.now) }
-{
-    if !is_allowed(line) {
-        return Err(Unread::Faulty);
-    }
-    read_words(alloc, table, line)
+impl<A: Allocator> Model for Pairs<A> {
+    ghost use Rattle.std.specs.Coded.{coded_list, coded_ℕ};
+    ghost use Rattle.std.specs.Ordering.{nat_cmp};
+    ghost use Rattle.std.specs.Cmp.Lexicographic.{slice_cmp};
+    ghost use Rattle.std.specs.FinMap as map;
+    ghost use Rattle.procedure.specs.Table.{Table};
+
+    ghost Value = { Table };
+
+    ghost coded = { map.code {R = slice_cmp nat_cmp} (coded_list coded_ℕ) (coded_list coded_ℕ) };
+
+    ghost view = { λ p. p.table };
 }
 
-/// Reads one line, and returns what is left after it.
-#[tactic(auto, unfolding(crate::specs::Pairs::table_after_lines))]
-fn read_next<'a, A: Allocator + Clone>(
-    alloc: A,
-    table: &mut Table<A>,
-    number: u64,
-    text: &'a [u8],
-) -> Result<Option<&'a [u8]>, ScriptFault>
-    ensures ok { IfOk result (λ behind. spec.table_after_lines table.old number (lines text.now) ≡ spec.table_after_lines table.new (number + 1) (left_lines (option_map (λ t. t.now) behind))) }
-    ensures shorter { IfOk result (λ behind. IfSome behind (λ t. length t.now < length text.now)) }
-    ensures err { IfErr result (λ e. (e ≡ script_fault.NoMemory) ⊎ (spec.table_after_lines table.old number (lines text.now) ≡ Err e)) }
-{
-    let (line, behind) = line_at(text);
-    match read_line(alloc, table, without_return(line)) {
-        Ok(()) => Ok(behind),
-        Err(Unread::Faulty) => Err(ScriptFault::Line(number)),
-        Err(Unread::NoMemory) => Err(ScriptFault::NoMemory),
+impl<A: Allocator + Clone> Pairs<A> {
+    /// Adds a pair of a new key.
+    fn add(&mut self, key: Key, held: Value<A>) -> Result<(), Unread>
+        ensures { ReadsAs (λ _. self.new) result (spec.with_pair self.old (key, held)) }
+    {
+        if self.table.len() >= ENTRIES || self.table.get(&key).is_some() {
+            return Err(Unread::Faulty);
+        }
+        self.table.insert(key, held)?;
+        Ok(())
+    }
+
+    /// A line without a fault of its bytes.
+    fn read_words(&mut self, line: &[u8]) -> Result<(), Unread>
+        ensures { ReadsAs (λ _. self.new) result (spec.table_after_words self.old (words line.now)) }
+    {
+        if is_skipped(line) {
+            return Ok(());
+        }
+        let (key, held) = pair_of(self.alloc.clone()?, line)?;
+        self.add(key, held)
     }
 }
 
-/// Reads all lines.
-fn read_lines<A: Allocator + Copy>(alloc: A, text: &[u8]) -> Result<Table<A>, ScriptFault>
-    requires { length text.now ≤ SCRIPT_BYTES }
-    ensures { TellsScript (λ t. t) result (spec.table_after_lines map.empty 1 (lines text.now)) }
-{
-    let mut table = KeyMap::new(alloc);
-    let mut number = 1;
-    let mut rest = Some(text);
-    while let Some(left) = rest {
-        rest = read_next(alloc, &mut table, number, left)?;
-        number += 1;
+impl<A: Allocator + Clone> LineReader for Pairs<A> {
+    ghost after = { spec.table_after_line };
+
+    fn read_line(&mut self, line: &[u8]) -> Result<(), Unread> {
+        if !is_allowed(line) {
+            return Err(Unread::Faulty);
+        }
+        self.read_words(line)
     }
-    Ok(table)
 }
 
 /// The table of a text of at most 4,194,304 bytes, or its first faulty line.
@@ -142,7 +105,13 @@ fn read_pairs<A: Allocator + Copy>(alloc: A, text: &[u8]) -> Result<Table<A>, Sc
     if text.len() > SCRIPT_BYTES {
         return Err(ScriptFault::Size);
     }
-    read_lines(alloc, text)
+    let mut said = Pairs {
+        alloc,
+        table: KeyMap::new(alloc),
+    };
+    read_lines(&mut said, 1, Some(text))?;
+    let Pairs { alloc: _, table } = said;
+    Ok(table)
 }
 
 /// The opening image of the pairs of a text.

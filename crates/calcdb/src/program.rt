@@ -11,6 +11,7 @@ use crate::pairs::load;
 use crate::recover_files::recover_files;
 use crate::run_folder::write_run;
 use crate::show::show;
+use crate::threads::run_threads;
 use clap::Error;
 use clap::error::ErrorKind;
 use image::{Image, Kind, ReadError, ReadFromError, read_from};
@@ -19,6 +20,8 @@ use std::convert::AsStr;
 use std::env;
 use std::io::{self, BufWriter, Write};
 use std::rt::{Env, Files};
+use std::sync::Wait;
+use std::thread::Threads;
 
 /// The image of a file. Where it is refused, one line on standard output says why.
 fn read_opening<'a, R: Files, O: Write, A: Allocator + Copy>(
@@ -80,9 +83,10 @@ where
     }
 }
 
-/// Runs a script over an opening.
-fn run_over<'a, R: Files, O: Write, A: Allocator + Copy>(
+/// Runs a script over an opening, in threads where that is asked for.
+fn run_over<'a, T: Threads + Wait + Sync, R: Files, O: Write, A: Allocator + Copy + Send + Sync>(
     alloc: A,
+    threads: &T,
     rt: &R,
     files: RunFiles<'a>,
     opening: Image<A>,
@@ -91,7 +95,13 @@ fn run_over<'a, R: Files, O: Write, A: Allocator + Copy>(
 where
     R::File: Drop,
 {
-    match run_script(alloc, &mut input_of(rt, files.script), out, opening) {
+    let mut script = input_of(rt, files.script);
+    let ran = if files.threads {
+        run_threads(threads, alloc, &mut script, out, opening)
+    } else {
+        run_script(alloc, &mut script, out, opening)
+    };
+    match ran {
         Ok(ran) => {
             let left = leave_run(alloc, rt, files.folder, &ran, out);
             drop(ran);
@@ -103,8 +113,9 @@ where
 
 /// Runs a script, and at its end writes its images and its log where that is asked for. The image to
 /// open from is read and checked before the script is looked for.
-fn run_task<'a, R: Files, O: Write, A: Allocator + Copy>(
+fn run_task<'a, T: Threads + Wait + Sync, R: Files, O: Write, A: Allocator + Copy + Send + Sync>(
     alloc: A,
+    threads: &T,
     rt: &R,
     files: RunFiles<'a>,
     out: &mut O,
@@ -113,7 +124,7 @@ where
     R::File: Drop,
 {
     let opening = opening_of(alloc, rt, files.opening, out)?;
-    run_over(alloc, rt, files, opening, out)
+    run_over(alloc, threads, rt, files, opening, out)
 }
 
 /// Makes a file of the image that a command made, once its standard output is out.
@@ -233,8 +244,9 @@ fn refused<'a, O: Write, A: Allocator + Copy>(
 }
 
 /// Does a task.
-fn do_task<'a, R: Files, O: Write, A: Allocator + Copy>(
+fn do_task<'a, T: Threads + Wait + Sync, R: Files, O: Write, A: Allocator + Copy + Send + Sync>(
     alloc: A,
+    threads: &T,
     rt: &R,
     task: &Task<'a>,
     out: &mut O,
@@ -244,7 +256,7 @@ where
 {
     let done = match task {
         // A run says at once that memory was wanting, on standard error.
-        Task::Run(files) => return run_task(alloc, rt, *files, out),
+        Task::Run(files) => return run_task(alloc, threads, rt, *files, out),
         Task::Load { pairs, out: name } => load_task(alloc, rt, pairs, name, out),
         Task::Merge { out: name, images } => merge_task(alloc, rt, name, images.as_slice(), out),
         Task::Recover {
@@ -304,20 +316,21 @@ fn concluded<E: Write>(err: &mut E, done: Result<(), Failure<'_>>) -> u8 {
 /// Does what the words ask for, of which the first is the program's name, and returns the status of
 /// the process: 0 where it is done, also with refusals inside a script; 1 where an input is refused, a
 /// file can't be read or written, or there is no memory; 2 where the command line is faulty. The command
-/// line takes its memory from the runtime, and the work from `alloc`.
-pub(crate) fn perform<R: Files + AllocGlobal, S: AsStr, O: Write, E: Write, A: Allocator + Copy>(
-    alloc: A,
-    rt: &R,
-    words: &[S],
-    out: &mut O,
-    err: &mut E,
-) -> u8
+/// line takes its memory from the runtime, and the work from `alloc`. A run in threads has `threads` for them.
+pub(crate) fn perform<
+    T: Threads + Wait + Sync,
+    R: Files + AllocGlobal,
+    S: AsStr,
+    O: Write,
+    E: Write,
+    A: Allocator + Copy + Send + Sync,
+>(alloc: A, threads: &T, rt: &R, words: &[S], out: &mut O, err: &mut E) -> u8
 where
     R::File: Drop,
 {
     match job(rt.alloc(), words) {
         Ok(task) => {
-            let done = do_task(alloc, rt, &task, out);
+            let done = do_task(alloc, threads, rt, &task, out);
             concluded(err, flushed(out, done))
         }
         Err(error) => {
@@ -330,11 +343,12 @@ where
 /// Performs what the process is asked for, with a buffer for its standard output.
 fn perform_buffered<
     V: Env + Alloc,
+    T: Threads + Wait + Sync,
     R: Files + AllocGlobal,
     O: Write + Drop,
     E: Write,
-    A: Allocator + Copy,
->(alloc: A, env: &V, rt: &R, out: O, err: &mut E) -> io::Result<u8>
+    A: Allocator + Copy + Send + Sync,
+>(alloc: A, env: &V, threads: &T, rt: &R, out: O, err: &mut E) -> io::Result<u8>
 where
     R::File: Drop,
 {
@@ -343,7 +357,7 @@ where
         words.push(word)?;
     }
     let mut out = BufWriter::new(alloc, out)?;
-    Ok(perform(alloc, rt, words.as_slice(), &mut out, err))
+    Ok(perform(alloc, threads, rt, words.as_slice(), &mut out, err))
 }
 
 /// What the process does, and its status. Where its words or its buffer aren't to be had, that is for
@@ -351,15 +365,16 @@ where
 /// runtime, and all else from `alloc`.
 pub(crate) fn start<
     V: Env + Alloc,
+    T: Threads + Wait + Sync,
     R: Files + AllocGlobal,
     O: Write + Drop,
     E: Write,
-    A: Allocator + Copy,
->(alloc: A, env: &V, rt: &R, out: O, err: &mut E) -> u8
+    A: Allocator + Copy + Send + Sync,
+>(alloc: A, env: &V, threads: &T, rt: &R, out: O, err: &mut E) -> u8
 where
     R::File: Drop,
 {
-    match perform_buffered(alloc, env, rt, out, err) {
+    match perform_buffered(alloc, env, threads, rt, out, err) {
         Ok(status) => status,
         Err(error) if error.kind() == io::ErrorKind::OutOfMemory => {
             concluded(err, Err(Failure::NoMemory))

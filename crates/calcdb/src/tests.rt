@@ -33,4 +33,5 @@ mod schedules;
 mod scripts;
 mod starts;
 mod texts;
+mod thread_runs;
 mod without_memory;

@@ -6,6 +6,7 @@ ghost use Rattle.calcdb.specs.Values as spec;
 
 use crate::faults::unread::Unread;
 use byteorder::{BigEndian, ByteOrder};
+use procedure::{Key, Value};
 use std::alloc::Allocator;
 
 fn digit_of(byte: u8) -> Result<u64, Unread>
@@ -90,4 +91,19 @@ pub(crate) fn value_of<A: Allocator>(alloc: A, word: &[u8]) -> Result<Vec<u8, A>
         [b'x', digits @ ..] => hex_of(alloc, digits),
         _ => Err(Unread::Faulty),
     }
+}
+
+/// The key that a word is.
+pub(crate) fn key_of<A: Allocator>(alloc: A, word: &[u8]) -> Result<Key, Unread>
+    ensures { ReadsAs (λ k. k) result (spec.key_of word.now) }
+{
+    let bytes = value_of(alloc, word)?;
+    Key::new(bytes.as_slice()).ok_or(Unread::Faulty)
+}
+
+/// What a key may hold, as a word.
+pub(crate) fn held_of<A: Allocator>(alloc: A, word: &[u8]) -> Result<Value<A>, Unread>
+    ensures { ReadsAs (λ v. v) result (spec.held_value_of word.now) }
+{
+    Value::new(value_of(alloc, word)?).ok_or(Unread::Faulty)
 }

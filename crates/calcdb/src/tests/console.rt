@@ -28,7 +28,9 @@ use std::fs;
 use std::io::ErrorKind;
 use std::process::Abort;
 use std::rt::Files;
+use std::sync::Wait;
 use std::test::Fail;
+use std::thread::Threads;
 
 /// A standard output that takes at most `most` bytes a call, and `calls` calls.
 fn output(alloc: Global, most: usize, calls: usize) -> Sink {
@@ -82,18 +84,17 @@ fn wanted_memory(rt: &impl Abort, line: &str, found: &[u8], whole: &[u8]) -> boo
 }
 
 /// The status of the program for the words of a line, and its standard error, over files of a runtime.
-fn performed_on<R: Files + AllocGlobal, A: Allocator + Copy>(
-    rt: &R,
-    alloc: A,
-    line: &str,
-    out: &mut Sink,
-) -> Result<(u8, Vec<u8, Global>), Fail>
+fn performed_on<
+    T: Threads + Wait + Sync,
+    R: Files + AllocGlobal,
+    A: Allocator + Copy + Send + Sync,
+>(threads: &T, rt: &R, alloc: A, line: &str, out: &mut Sink) -> Result<(u8, Vec<u8, Global>), Fail>
 where
     R::File: Drop,
 {
     let mut err = Sink::new(rt.alloc(), PLENTY, PLENTY);
     let words = words_of(rt.alloc(), line)?;
-    let status = perform(alloc, rt, words.as_slice(), out, &mut err);
+    let status = perform(alloc, threads, rt, words.as_slice(), out, &mut err);
     Ok((status, err.kept))
 }
 
@@ -102,26 +103,31 @@ const UNWRITTEN: &[u8] = b"calcdb: cannot write output\n";
 
 /// Where rows are run.
 #[derive(Drop)]
-struct Console<'a, R> {
+struct Console<'a, T, R> {
+    threads: &'a T,
     rt: &'a R,
 }
 
-impl<R: Files + Abort + AllocGlobal> Console<'_, R>
+impl<T: Threads + Wait + Sync, R: Files + Abort + AllocGlobal> Console<'_, T, R>
 where
     R::File: Drop,
 {
     /// The status of the program for the words of a line, and its standard error.
-    fn performed<A: Allocator + Copy>(
+    fn performed<A: Allocator + Copy + Send + Sync>(
         &self,
         alloc: A,
         line: &str,
         out: &mut Sink,
     ) -> Result<(u8, Vec<u8, Global>), Fail> {
-        performed_on(self.rt, alloc, line, out)
+        performed_on(self.threads, self.rt, alloc, line, out)
     }
 
     /// What a line comes to, with an output that takes all.
-    fn found_of<A: Allocator + Copy>(&self, alloc: A, line: &str) -> Result<Vec<u8>, Fail> {
+    fn found_of<A: Allocator + Copy + Send + Sync>(
+        &self,
+        alloc: A,
+        line: &str,
+    ) -> Result<Vec<u8>, Fail> {
         let mut out = output(self.rt.alloc(), PLENTY, PLENTY);
         let (status, err) = self.performed(alloc, line, &mut out)?;
         transcript(self.rt.alloc(), status, out.kept.as_slice(), err.as_slice())
@@ -277,7 +283,7 @@ where
         let alloc = self.rt.alloc();
         let rt = (FaultyFiles { rt: self.rt, calls }, alloc);
         let mut out = output(alloc, PLENTY, PLENTY);
-        let (status, err) = performed_on(&rt, alloc, line, &mut out)?;
+        let (status, err) = performed_on(self.threads, &rt, alloc, line, &mut out)?;
         transcript(alloc, status, out.kept.as_slice(), err.as_slice())
     }
 
@@ -378,7 +384,7 @@ where
     }
 
     /// Compares what a command line comes to.
-    fn check_found<A: Allocator + Copy>(
+    fn check_found<A: Allocator + Copy + Send + Sync>(
         &self,
         alloc: A,
         line: &str,
@@ -445,11 +451,14 @@ where
 }
 
 /// Runs the rows of a text, each in files of its own, and returns how many there are.
-pub(crate) fn check_rows<R: Files + Abort + AllocGlobal>(rt: &R, text: &str) -> Result<usize, Fail>
+pub(crate) fn check_rows<R: Files + Abort + AllocGlobal + Threads + Wait + Sync>(
+    rt: &R,
+    text: &str,
+) -> Result<usize, Fail>
 where
     R::File: Drop,
 {
-    let console = Console { rt };
+    let console = Console { threads: rt, rt };
     let rows = rows_of(rt.alloc(), text)?;
     for row in &rows {
         for line in &row.lines {

@@ -2,7 +2,7 @@
 
 use crate::output::{push_text, push_value};
 use crate::run::carry_out;
-use crate::scripts::read_script;
+use crate::scripts::read_schedule;
 use crate::tests::fixtures::opened;
 use crate::tests::rows::{Row, answers_of, check_named, row_of, script_of_row};
 use image::{Image, Kind};
@@ -164,7 +164,7 @@ fn versions_after(
 ) -> Result<Vec<u8, Global>, Fail> {
     let key = Key::new(b"q").ok_or("no key")?;
     let mut out = Vec::new(alloc);
-    for command in read_script(alloc, script.as_bytes())?.commands.into_vec() {
+    for command in read_schedule(alloc, script.as_bytes())?.commands.into_vec() {
         let _shown = carry_out(core, command);
         push_versions(&mut out, core.versions(&key))?;
     }

@@ -28,10 +28,15 @@ write upgrade = proc get 1|read r0 $0|end|proc set 2|put $0 $1|end|proc swap 2|r
 step 0|giveup 1|step 0|finish 0|call 1 1 get 'a
 calcdb run upgrade = 0|out place 0 committed|out ok|out ok|out ran|out ready|out refused conflict|out ok|out ready|out place 1 committed #1|out place 2 committed #2
 remove upgrade = -
+# calls in threads beside checkpoints
+image opening = full 0 base 0 place 0: alice=100 bob=20 carol=5
+write threads = proc deposit 2|read r0 $0|abort 16 absent r0|add r0 r0 $1|put $0 r0|end|call 0 1 deposit 'alice #5|call 0 2 deposit 'bob #1|call 1 1 deposit 'alice #7|checkpoint full
+checkpoint partial|view 'carol
+calcdb run threads --open opening --threads = 0|out calls 3 answered 3 stopped 0|out images 2|out audit ok|out view 'carol 2 #5 / remove threads = - / remove opening = -
 ";
 
 #[test]
 fn examples(rt: HostRuntime) -> Result<(), Fail> {
-    assert_eq!(rt; check_rows(&rt, EXAMPLES)?, 4);
+    assert_eq!(rt; check_rows(&rt, EXAMPLES)?, 5);
     Ok(())
 }

@@ -3,7 +3,7 @@
 use crate::engine::{Ran, run_script};
 use crate::faults::Fault;
 use crate::pairs::load;
-use crate::scripts::read_script;
+use crate::scripts::read_schedule;
 use crate::tests::devices::{PLENTY, Sink, Source};
 use crate::tests::rows::check_named;
 use commitlog::{LogHeader, Record, encode, limits};
@@ -46,7 +46,7 @@ pub(crate) fn numbers(alloc: Global, count: u32) -> Result<String<Global>, Fail>
 /// The procedures of a script without commands.
 pub(crate) fn catalog_of<A: Allocator + Copy>(alloc: A) -> Result<Catalog<A>, Fail> {
     let script = script_of(alloc, "")?;
-    Ok(read_script(alloc, script.as_bytes())?.catalog)
+    Ok(read_schedule(alloc, script.as_bytes())?.catalog)
 }
 
 /// A core over an opening of these pairs, with those procedures.

@@ -2,7 +2,7 @@
 //! are run again.
 
 use crate::run::carry_out;
-use crate::scripts::read_script;
+use crate::scripts::read_schedule;
 use crate::tests::fixtures::{opened, script_of};
 use crate::tests::growths::Fallible;
 use std::alloc::{Allocator, Global};
@@ -39,7 +39,7 @@ fn most_growths<A: Allocator + Copy>(
 ) -> Result<u64, Fail> {
     let script = script_of(alloc, text)?;
     let mut most = 0u64;
-    for command in read_script(alloc, script.as_bytes())?.commands.into_vec() {
+    for command in read_schedule(alloc, script.as_bytes())?.commands.into_vec() {
         heap.arm(0);
         drop(carry_out(core, command));
         most = most.max(heap.asked());

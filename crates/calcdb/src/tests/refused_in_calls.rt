@@ -4,7 +4,7 @@
 
 use crate::commands::{Arguments, Command};
 use crate::run::{carry_out, push_shown};
-use crate::scripts::{Script, read_script};
+use crate::scripts::{Script, read_schedule};
 use crate::tests::checkpoints::CHECKPOINTS;
 use crate::tests::fixtures::{catalog_of, log_of_core, opening_of, script_of};
 use crate::tests::growths::{EVERY, Fallible, MOST};
@@ -97,7 +97,7 @@ fn run_on_core<A: Allocator + Copy>(
     lines: &mut Vec<u8, A>,
 ) -> Result<(bool, bool), Fail> {
     let opening = opening_of(alloc, pairs)?;
-    let Script { catalog, commands } = read_script(alloc, script.as_bytes())?;
+    let Script { catalog, commands } = read_schedule(alloc, script.as_bytes())?;
     let mut core = Core::open(alloc, catalog, opening)?;
     let commands = commands.into_vec();
     carried_all(global, alloc, heap, &mut core, commands, refused, lines)

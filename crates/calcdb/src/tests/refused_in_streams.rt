@@ -2,7 +2,7 @@
 //! and then succeeds. What follows the scan takes no memory but that of the log, however large the table is.
 
 use crate::run::carry_out;
-use crate::scripts::read_script;
+use crate::scripts::read_schedule;
 use crate::tests::fixtures::{numbers, opened, script_of};
 use crate::tests::growths::{EVERY, Fallible, MOST};
 use image::{Entry, Kind, NO_ENTRIES, link};
@@ -155,7 +155,7 @@ fn start<A: Allocator + Clone>(core: &mut Core<A>) -> Result<Phase, Fail> {
 /// The calls of a text.
 fn carry<A: Allocator + Copy>(alloc: A, core: &mut Core<A>, text: &str) -> Result<(), Fail> {
     let script = script_of(alloc, text)?;
-    for command in read_script(alloc, script.as_bytes())?.commands.into_vec() {
+    for command in read_schedule(alloc, script.as_bytes())?.commands.into_vec() {
         drop(carry_out(core, command));
     }
     Ok(())

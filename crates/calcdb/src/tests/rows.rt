@@ -4,7 +4,7 @@
 use crate::commands::{Arguments, Command, NewCall};
 use crate::engine::Ran;
 use crate::run::{Shown, push_shown};
-use crate::scripts::{Script, read_script};
+use crate::scripts::{Schedule, Script, read_schedule};
 use crate::tests::fixtures::{check_over, opening_of, script_of};
 use crate::values::decimal_of;
 use std::alloc::Global;
@@ -202,7 +202,7 @@ fn events_of(
 }
 
 /// What a script's commands make of a core that they drive.
-fn run_of(alloc: Global, script: Script<Global>, pairs: &str) -> Result<Run<Global>, Fail> {
+fn run_of(alloc: Global, script: Schedule<Global>, pairs: &str) -> Result<Run<Global>, Fail> {
     let Script { catalog, commands } = script;
     let events = events_of(alloc, commands.into_vec())?;
     let opening = opening_of(alloc, pairs)?;
@@ -212,7 +212,7 @@ fn run_of(alloc: Global, script: Script<Global>, pairs: &str) -> Result<Run<Glob
 /// What is printed of a core that a script's commands drive, each of them one event: its replies, and the
 /// next image for each that one was taken.
 pub(crate) fn driven(alloc: Global, script: &str, pairs: &str) -> Result<Vec<u8, Global>, Fail> {
-    let script = read_script(alloc, script.as_bytes())?;
+    let script = read_schedule(alloc, script.as_bytes())?;
     let mut out = Vec::new(alloc);
     let Run {
         answers,

@@ -9,7 +9,9 @@ use std::alloc::{Allocator, Global};
 use std::env::FillError;
 use std::fs;
 use std::rt::{Env, Files};
+use std::sync::Wait;
 use std::test::Fail;
+use std::thread::Threads;
 
 /// The words of a process, which has no variables, and where they take memory from.
 #[derive(Clone, Copy)]
@@ -48,7 +50,7 @@ impl Env for Words<'_> {
 }
 
 /// The status of the program that is started with these words, and what it writes to both outputs.
-fn started<R: Files + AllocGlobal, A: Allocator + Copy>(
+fn started<R: Files + AllocGlobal + Threads + Wait + Sync, A: Allocator + Copy + Send + Sync>(
     alloc: A,
     rt: &R,
     words: Words<'_>,
@@ -58,12 +60,12 @@ where
 {
     let mut out = Sink::new(rt.alloc(), PLENTY, PLENTY);
     let mut err = Sink::new(rt.alloc(), PLENTY, PLENTY);
-    let status = start(alloc, &words, rt, &mut out, &mut err);
+    let status = start(alloc, &words, rt, rt, &mut out, &mut err);
     (status, out.kept, err.kept)
 }
 
 /// Whether that is so with this status and these outputs.
-fn starts<R: Files + AllocGlobal>(
+fn starts<R: Files + AllocGlobal + Threads + Wait + Sync>(
     heap: &Fallible<Global>,
     rt: &R,
     words: &[&[u8]],
@@ -88,7 +90,10 @@ const NO_UTF_8: (u8, &str, &str) = (2, "", "calcdb: a word isn't UTF-8\n");
 
 /// How many growths a start asks for, each of which was refused in turn: it says so, on standard error before
 /// it begins its work.
-fn count_growths<R: Files + AllocGlobal>(rt: &R, heap: &Fallible<Global>) -> Option<u64>
+fn count_growths<R: Files + AllocGlobal + Threads + Wait + Sync>(
+    rt: &R,
+    heap: &Fallible<Global>,
+) -> Option<u64>
 where
     R::File: Drop,
 {

@@ -4,7 +4,7 @@ use crate::command_line::job;
 use crate::commands::is_name;
 use crate::output::{push_image, push_value};
 use crate::pairs::load;
-use crate::scripts::{ScriptFault, read_catalog, read_script};
+use crate::scripts::{ScriptFault, read_catalog, read_schedule, read_thread_script};
 use crate::tests::fixtures::{check_over, script_of};
 use crate::tests::rows::{check_named, check_that, driven, sides_of};
 use crate::values::value_of;
@@ -17,6 +17,7 @@ use std::test::Fail;
 #[derive(Clone, Copy)]
 enum Reading {
     Script,
+    ThreadScript,
     Catalog,
     Pairs,
     Value,
@@ -69,6 +70,32 @@ reclaim 'a = Err(Line(1))
 abandon 1 = Err(Line(1))
 scans = Err(Line(1))
 step 0|step 0|step\u{0}0| = Err(Line(3))
+";
+
+/// Scripts of runs in threads, and how many commands each has, or its first faulty line.
+const THREAD_SCRIPTS: &str = "\
+proc g 1|read r0 $0|end|call 63 18446744073709551615 g 'a|checkpoint full|checkpoint partial|view 'abcdefghijklmnopqrstuvwxyz012345| = Ok(4)
+;|proc g 0|end||; none = Ok(0)
+proc g 1|read r0 $0|end|call 64 1 g 'a = Err(Line(4))
+proc g 1|read r0 $0|end|call 0 18446744073709551616 g 'a = Err(Line(4))
+call 0 1 g 'a = Err(Line(1))
+proc g 1|read r0 $0|end|call 0 1 g a = Err(Line(4))
+proc g 1|read r0 $0|end|call 0 1 = Err(Line(4))
+checkpoint = Err(Line(1))
+checkpoint half = Err(Line(1))
+checkpoint full partial = Err(Line(1))
+view = Err(Line(1))
+view ' = Err(Line(1))
+view 'abcdefghijklmnopqrstuvwxyz0123456 = Err(Line(1))
+view 'a 'b = Err(Line(1))
+view a = Err(Line(1))
+checkpoint full|begin 0 1 g 'a = Err(Line(2))
+checkpoint full|start full = Err(Line(2))
+checkpoint full|advance = Err(Line(2))
+checkpoint full|proc g 1|end = Err(Line(2))
+checkpoint full|view\u{0} 'a = Err(Line(2))
+proc g 1|checkpoint full|end = Err(Line(2))
+proc g 1|checkpoint full = Err(Line(1))
 ";
 
 /// Texts, and how many procedures stand before their first command, or their first faulty line. From the
@@ -145,10 +172,14 @@ abcdefghijklmnopqrstuvwxyz0123456 = false
 
 /// Command lines, and what they ask for, or why they ask for nothing.
 const COMMAND_LINES: &str = "\
-calcdb run a = Run(RunFiles { script: \"a\", opening: None, folder: None })
-calcdb run a --open b --out c = Run(RunFiles { script: \"a\", opening: Some(\"b\"), folder: Some(\"c\") })
-calcdb run --out=c a = Run(RunFiles { script: \"a\", opening: None, folder: Some(\"c\") })
-calcdb run --open=b -- --out = Run(RunFiles { script: \"--out\", opening: Some(\"b\"), folder: None })
+calcdb run a = Run(RunFiles { script: \"a\", opening: None, folder: None, threads: false })
+calcdb run a --open b --out c = Run(RunFiles { script: \"a\", opening: Some(\"b\"), folder: Some(\"c\"), threads: false })
+calcdb run --out=c a = Run(RunFiles { script: \"a\", opening: None, folder: Some(\"c\"), threads: false })
+calcdb run --threads a --out c = Run(RunFiles { script: \"a\", opening: None, folder: Some(\"c\"), threads: true })
+calcdb run a -- --threads = UnknownArgument
+calcdb run a --threads --threads = ArgumentConflict
+calcdb run a --threads=b = TooManyValues
+calcdb run --open=b -- --out = Run(RunFiles { script: \"--out\", opening: Some(\"b\"), folder: None, threads: false })
 calcdb load a b = Load { pairs: \"a\", out: \"b\" }
 calcdb merge a b = Merge { out: \"a\", images: [\"b\"] }
 calcdb merge a d c d = Merge { out: \"a\", images: [\"d\", \"c\", \"d\"] }
@@ -171,7 +202,11 @@ calcdb show --open a = UnknownArgument
 ";
 
 fn procedures_of_script(alloc: Global, text: &[u8]) -> Result<usize, ScriptFault> {
-    Ok(read_script(alloc, text)?.catalog.len())
+    Ok(read_schedule(alloc, text)?.catalog.len())
+}
+
+fn commands_of_threads(alloc: Global, text: &[u8]) -> Result<usize, ScriptFault> {
+    Ok(read_thread_script(alloc, text)?.commands.len())
 }
 
 fn procedures_of(alloc: Global, text: &[u8]) -> Result<usize, ScriptFault> {
@@ -224,6 +259,7 @@ fn read(rt: &impl Abort, alloc: Global, how: Reading, text: &str) -> Result<Stri
     let bytes = text.as_bytes();
     match how {
         Reading::Script => Ok(format!(in alloc; "{:?}", procedures_of_script(alloc, bytes))?),
+        Reading::ThreadScript => Ok(format!(in alloc; "{:?}", commands_of_threads(alloc, bytes))?),
         Reading::Catalog => Ok(format!(in alloc; "{:?}", procedures_of(alloc, bytes))?),
         Reading::Pairs => pairs_read(rt, alloc, text),
         Reading::Value => value_read(alloc, text),
@@ -260,11 +296,12 @@ fn check_all(rt: &impl Abort, alloc: Global, how: Reading, table: &str) -> Resul
 fn texts(rt: HostRuntime) -> Result<(), Fail> {
     for (how, table, count) in [
         (Reading::Script, SCRIPTS, 43),
+        (Reading::ThreadScript, THREAD_SCRIPTS, 22),
         (Reading::Catalog, CATALOGS, 19),
         (Reading::Pairs, PAIRS, 20),
         (Reading::Value, VALUES, 9),
         (Reading::Name, NAMES, 7),
-        (Reading::Words, COMMAND_LINES, 23),
+        (Reading::Words, COMMAND_LINES, 27),
     ] {
         assert_eq!(rt; table.lines().count(), count);
         check_all(&rt, rt.alloc(), how, table)?;
@@ -312,7 +349,17 @@ fn long_values(rt: HostRuntime) -> Result<(), Fail> {
     let image = format!(in alloc; "image full 0 base 0 place 0 count 1\n{pair}")?;
     check(&rt, alloc, Reading::Pairs, pair.as_str(), image.as_str())?;
     let longer = format!(in alloc; "'b '\n{pair}v")?;
-    check(&rt, alloc, Reading::Pairs, longer.as_str(), "fault line 2")
+    check(&rt, alloc, Reading::Pairs, longer.as_str(), "fault line 2")?;
+    let call = format!(in alloc; "proc g 1\nread r0 $0\nend\ncall 0 1 g '{longest}")?;
+    check(&rt, alloc, Reading::ThreadScript, call.as_str(), "Ok(1)")?;
+    let longer = format!(in alloc; "{call}v")?;
+    check(
+        &rt,
+        alloc,
+        Reading::ThreadScript,
+        longer.as_str(),
+        "Err(Line(4))",
+    )
 }
 
 /// Calls of arguments of 257, 65,536, 33 and 32 bytes.

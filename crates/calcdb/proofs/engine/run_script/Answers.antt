@@ -1,15 +1,17 @@
 use Rattle.std.proofs.Common.{refl, sym, ◌∙◌, subst, ap}
 use Rattle.std.proofs.lemmas.Result.{IfErr-weaker, IfOk-weaker}
 use Rattle.calcdb.specs.Outcomes.{EndsRun, RunsTo}
-use Rattle.calcdb.specs.Scripts.{script_of}
+use Rattle.calcdb.specs.Scripts.{schedule_of}
 use Rattle.calcdb.specs.declared.faults.Fault.TheVariants as fault
 use Rattle.calcdb.specs.declared.faults.Reason.TheVariants.{NotAnOpening}
-use Rattle.calcdb.proofs.Endings.{ends_refused, same_reading}
+use Rattle.calcdb.specs.Commands.{command_of}
+use Rattle.calcdb.proofs.Endings.{ends_refused}
+use Rattle.calcdb.proofs.TextReadings.{long_scripts, same_reading}
 use Rattle.calcdb.proofs.engine.run_script.Goals as goal
 
 pub returns-then-not-is_opening-clause-fault : goal.returns-then-not-is_opening-clause-fault
 returns-then-not-is_opening-clause-fault g c = λ source known.
-    ends_refused g.row.A.Denot (script_of source) c.args.opening (g.W.Write.contents c.args.writer.now) (g.W.Write.contents c.write_fault.new.writer) (fault.Refused NotAnOpening) c.write_fault.result
+    ends_refused g.row.A.Denot (schedule_of source) c.args.opening (g.W.Write.contents c.args.writer.now) (g.W.Write.contents c.write_fault.new.writer) (fault.Refused NotAnOpening) c.write_fault.result
     (sym c.is_opening.ensures ∙ c.if-not-is_opening.true, refl) c.write_fault.ensures
 
 pub returns-clause-run : goal.returns-clause-run
@@ -18,8 +20,8 @@ returns-clause-run g c =
     let new = g.W.Write.contents c.run_text.new.writer in
     IfOk-weaker c.run_text.result _ _
     (λ r h source known.
-    let same = same_reading (g.R.Read.remaining c.args.reader.now) (g.R.Read.remaining c.read_past.new.reader) source c.in-Ok.text.items known c.in-Ok.ensures.read c.in-Ok.ensures.end in
-    (h.0, subst (λ says. RunsTo g.row.A.Denot says c.args.opening r.core h.0 r.images.items) (ap script_of c.as_slice.ensures.value ∙ sym same) h.1, h.2))
+    let same = same_reading schedule_of (long_scripts command_of) (g.R.Read.remaining c.args.reader.now) (g.R.Read.remaining c.read_past.new.reader) source c.in-Ok.text.items known c.in-Ok.ensures.read c.in-Ok.ensures.end in
+    (h.0, subst (λ says. RunsTo g.row.A.Denot says c.args.opening r.core h.0 r.images.items) (ap schedule_of c.as_slice.ensures.value ∙ sym same) h.1, h.2))
     c.run_text.ensures.run
 
 pub returns-clause-fault : goal.returns-clause-fault
@@ -28,6 +30,6 @@ returns-clause-fault g c =
     let new = g.W.Write.contents c.run_text.new.writer in
     IfErr-weaker c.run_text.result _ _
     (λ f h source known.
-    let same = same_reading (g.R.Read.remaining c.args.reader.now) (g.R.Read.remaining c.read_past.new.reader) source c.in-Ok.text.items known c.in-Ok.ensures.read c.in-Ok.ensures.end in
-    subst (λ says. EndsRun g.row.A.Denot says c.args.opening old new f) (ap script_of c.as_slice.ensures.value ∙ sym same) h)
+    let same = same_reading schedule_of (long_scripts command_of) (g.R.Read.remaining c.args.reader.now) (g.R.Read.remaining c.read_past.new.reader) source c.in-Ok.text.items known c.in-Ok.ensures.read c.in-Ok.ensures.end in
+    subst (λ says. EndsRun g.row.A.Denot says c.args.opening old new f) (ap schedule_of c.as_slice.ensures.value ∙ sym same) h)
     c.run_text.ensures.fault

@@ -3,7 +3,7 @@ use Rattle.std.proofs.lemmas.Result.{IfErr-weaker, IfOk-weaker}
 use Rattle.calcdb.specs.Pairs.{EndsLoad, IsLoadFault, IsLoadHeader, image_of_pairs}
 use Rattle.calcdb.specs.Refusing.{no_memory}
 use Rattle.calcdb.proofs.Declined.{declined}
-use Rattle.calcdb.proofs.Loading.{same_image}
+use Rattle.calcdb.proofs.TextReadings.{long_pairs, same_reading}
 use Rattle.calcdb.proofs.pairs.load.Goals as goal
 
 pub returns-in-Err-NoMemory-clause-fault : goal.returns-in-Err-NoMemory-clause-fault
@@ -16,7 +16,7 @@ pub returns-clause-image : goal.returns-clause-image
 returns-clause-image g c =
     IfOk-weaker c.load_text.result _ _
     (λ i h source known.
-    let same = same_image (g.R.Read.remaining c.args.reader.now) (g.R.Read.remaining c.read_past.new.reader) source c.in-Ok.text.items known c.in-Ok.ensures.read c.in-Ok.ensures.end in
+    let same = same_reading image_of_pairs long_pairs (g.R.Read.remaining c.args.reader.now) (g.R.Read.remaining c.read_past.new.reader) source c.in-Ok.text.items known c.in-Ok.ensures.read c.in-Ok.ensures.end in
     (same ∙ sym (ap image_of_pairs c.as_slice.ensures.value) ∙ h.0, h.1))
     c.load_text.ensures.ok
 
@@ -26,6 +26,6 @@ returns-clause-fault g c =
     let new = g.W.Write.contents c.load_text.new.writer in
     IfErr-weaker c.load_text.result _ _
     (λ f h source known.
-    let same = same_image (g.R.Read.remaining c.args.reader.now) (g.R.Read.remaining c.read_past.new.reader) source c.in-Ok.text.items known c.in-Ok.ensures.read c.in-Ok.ensures.end in
+    let same = same_reading image_of_pairs long_pairs (g.R.Read.remaining c.args.reader.now) (g.R.Read.remaining c.read_past.new.reader) source c.in-Ok.text.items known c.in-Ok.ensures.read c.in-Ok.ensures.end in
     subst (λ says. EndsLoad says old new f) (ap image_of_pairs c.as_slice.ensures.value ∙ sym same) h)
     c.load_text.ensures.err

@@ -1,0 +1,48 @@
+-- Texts of which a front was read, up to a byte over the limit.
+use Rattle.std.proofs.Common.{◌≡◌, ◌≤◌, ◌<◌, ◌+◌, Bool, true, false, nat_le, [], ◌++◌, length, List, Option, Some, None, Result, Ok, Err, refl, sym, ap, ◌∙◌, arith}
+use Rattle.std.specs.Io.KnownBytes.{Consumes, IsAtEnd}
+use Rattle.std.proofs.lemmas.Bool.{leb-true, leb-false, lt-leb}
+use Rattle.std.proofs.lemmas.List.{append-nil, length-append}
+use Rattle.procedure.specs.Bytes.{Bytes}
+use Rattle.calcdb.specs.Commands.{Names}
+use Rattle.calcdb.specs.Pairs.{image_of_pairs, table_of_pairs}
+use Rattle.calcdb.specs.Preambles.{Preamble, preamble_of}
+use Rattle.calcdb.specs.Scripts.{Script, script_after, script_of}
+use Rattle.calcdb.specs.declared.scripts.ScriptFault.{ScriptFault}
+use Rattle.calcdb.specs.declared.scripts.ScriptFault.TheVariants.{Size}
+use Rattle.calcdb.specs.declared.scripts.TheConstants.{SCRIPT_BYTES}
+
+-- texts that are too long say the same
+abbrev pub RefusesLong : {Y : Type 0} → (Bytes → Y) → Type 0
+RefusesLong says = (a b : Bytes) → SCRIPT_BYTES < length a → SCRIPT_BYTES < length b → says a ≡ says b
+
+long_preamble : (a : Bytes) → SCRIPT_BYTES < length a → preamble_of a ≡ Err Size
+unfolding preamble_of
+long_preamble a h = rw (lt-leb (length a) SCRIPT_BYTES h) refl
+
+-- the script with a preamble, where there is one
+abbrev script_with : {C : Type 0} → (Names → List Bytes → Option C) → Result Preamble ScriptFault → Result (Script C) ScriptFault
+script_with reads says = elim says [ Ok p ↦ script_after reads p | Err e ↦ Err e ]
+
+pub long_scripts : {C : Type 0} (reads : Names → List Bytes → Option C) → RefusesLong (script_of reads)
+long_scripts reads a b ha hb = ap (script_with reads) (long_preamble a ha ∙ sym (long_preamble b hb))
+
+pub long_pairs : RefusesLong image_of_pairs
+unfolding table_of_pairs
+long_pairs a b ha hb = rw (lt-leb (length a) SCRIPT_BYTES ha, lt-leb (length b) SCRIPT_BYTES hb) refl
+
+module _ {Y : Type 0} (says : Bytes → Y) (refuses : RefusesLong says) where
+  same_by : (source text left : Bytes) (v : Bool) → nat_le (length text) SCRIPT_BYTES ≡ v → source ≡ text ++ left → (length text ≤ SCRIPT_BYTES → left ≡ []) → says source ≡ says text
+  same_by source text left true e parts at_end = ap says (parts ∙ ap (λ (l : Bytes). text ++ l) (at_end (leb-true (length text) SCRIPT_BYTES e)) ∙ append-nil text)
+  same_by source text left false e parts at_end =
+      let long : length source ≡ length text + length left = ap (λ (l : Bytes). length l) parts ∙ length-append text left in
+      let more : SCRIPT_BYTES < length text = leb-false (length text) SCRIPT_BYTES e in
+      refuses source text (omega (arith, long, more)) more
+
+  -- what was read says what all of the bytes say
+  pub same_reading : (old new : Option Bytes) (source text : Bytes) → old ≡ Some source → Consumes old new text → (length text ≤ SCRIPT_BYTES → IsAtEnd new) → says source ≡ says text
+  same_reading None new source text is h at_end = absurd (cc)
+  same_reading (Some xs) None source text is h at_end = absurd h
+  same_reading (Some xs) (Some ys) source text is h at_end =
+      let same : xs ≡ source = cc in
+      same_by source text ys (nat_le (length text) SCRIPT_BYTES) refl (sym same ∙ h) at_end

@@ -1,0 +1,27 @@
+-- How runs in threads end, in the words of what they were given.
+use Rattle.std.proofs.Common.{◌≡◌, ◌⊎◌, inl, inr, true, Option, Result, Ok, Err, refl}
+use Rattle.procedure.specs.Bytes.{Bytes}
+use Rattle.image.specs.Images.{Image}
+use Rattle.image.specs.Openings.{is_opening}
+use Rattle.calcdb.specs.Outcomes.{Refuses, RefusesScript}
+use Rattle.calcdb.specs.ThreadOutcomes.{EndsInThreads, StopsScript}
+use Rattle.calcdb.specs.Scripts.{ThreadScript}
+use Rattle.calcdb.specs.declared.faults.Fault.{Fault}
+use Rattle.calcdb.specs.declared.faults.Fault.TheVariants as fault
+use Rattle.calcdb.specs.declared.faults.Reason.TheVariants.{NoView}
+use Rattle.calcdb.specs.declared.scripts.ScriptFault.{ScriptFault}
+use Rattle.calcdb.specs.declared.scripts.ScriptFault.TheVariants as script
+
+module _ (says : Result ThreadScript ScriptFault) (opening : Image) (old new : Option Bytes) where
+  -- a text that is no script
+  pub ends_script : (f : ScriptFault) (r : Fault) → is_opening opening ≡ true → (f ≡ script.NoMemory) ⊎ (says ≡ Err f) → RefusesScript f old new r → EndsInThreads says opening old new r
+  ends_script (script.Line n) r lawful (inl e) h = absurd (cc)
+  ends_script (script.Line n) r lawful (inr reads) h = inr (inl (fault.Line n, (lawful, reads), h))
+  ends_script script.Size r lawful (inl e) h = absurd (cc)
+  ends_script script.Size r lawful (inr reads) h = inr (inl (fault.Size, (lawful, reads), h))
+  ends_script script.NoMemory r lawful read (is, out) = inl (inr is, out)
+
+  -- a run without a view, or one that was stopped
+  pub ends_run : (s : ThreadScript) (f : Fault) → is_opening opening ≡ true → says ≡ Ok s → Refuses (fault.Refused NoView) old new f ⊎ StopsScript s old new f → EndsInThreads says opening old new f
+  ends_run s f lawful reads (inl h) = inr (inl (fault.Refused NoView, inr (lawful, s, reads, refl), h))
+  ends_run s f lawful reads (inr h) = inr (inr (s, lawful, reads, h))

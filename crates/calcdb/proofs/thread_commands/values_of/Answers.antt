@@ -1,0 +1,26 @@
+use Rattle.std.proofs.Common.{◌∙◌, List, Some, sym, ap}
+use Rattle.procedure.specs.Bytes.{Bytes}
+use Rattle.calcdb.specs.Lines.{words}
+use Rattle.calcdb.specs.Values.{held_value_of}
+use Rattle.calcdb.specs.Commands.{values_by}
+use Rattle.calcdb.proofs.Readers.{behind, handed_on}
+use Rattle.calcdb.proofs.WordValues.{all_values, no_value, value_kept}
+use Rattle.calcdb.proofs.thread_commands.values_of.Goals as goal
+
+pub returns-in_err-held_of : goal.returns-in_err-held_of
+returns-in_err-held_of g c =
+    let l = c.loop-word in
+    handed_on (λ a. a) c.from_residual-in_err-held_of.result c.in_err-held_of.field-0.0 (held_value_of c.in-Some.word.now) (values_by held_value_of (words c.args.line.now))
+    c.from_residual-in_err-held_of.ensures.1 c.in_err-held_of.ensures
+    (λ none. sym l.invariant ∙ no_value held_value_of l.values.items (words l.rest.now) (words c.in-Some.behind.now) c.in-Some.word.now c.in-Some.ensures.words none)
+
+pub loop-word-preserved : goal.loop-word-preserved
+loop-word-preserved g c =
+    let l = c.loop-word in
+    ap (λ (vs : List Bytes). behind vs (values_by held_value_of (words c.in-Some.behind.now))) c.in_ok-push.ensures.items
+    ∙ value_kept held_value_of l.values.items (words l.rest.now) (words c.in-Some.behind.now) c.in-Some.word.now c.in_ok-held_of.field-0 c.in-Some.ensures.words c.in_ok-held_of.ensures
+    ∙ l.invariant
+
+pub returns : goal.returns
+returns g c =
+    sym c.loop-word.invariant ∙ all_values held_value_of c.loop-word.values.items (words c.loop-word.rest.now) c.in_default.ensures.words ∙ ap (λ (vs : List Bytes). Some vs) (sym c.new.ensures)

@@ -1,0 +1,31 @@
+use Rattle.std.proofs.Common.{inl, inr, refl, sym, ◌∙◌, subst, ap}
+use Rattle.std.proofs.lemmas.Result.{IfErr-weaker, IfOk-weaker}
+use Rattle.calcdb.specs.ThreadOutcomes.{EndsInThreads, RunsToEnd}
+use Rattle.calcdb.specs.Scripts.{thread_script_of}
+use Rattle.calcdb.specs.declared.faults.Fault.TheVariants as fault
+use Rattle.calcdb.specs.declared.faults.Reason.TheVariants.{NotAnOpening}
+use Rattle.calcdb.specs.ThreadCommands.{thread_command_of}
+use Rattle.calcdb.proofs.TextReadings.{long_scripts, same_reading}
+use Rattle.calcdb.proofs.threads.run_threads.Goals as goal
+
+pub returns-then-not-is_opening-clause-fault : goal.returns-then-not-is_opening-clause-fault
+returns-then-not-is_opening-clause-fault g c = λ source known.
+    inr (inl (fault.Refused NotAnOpening, inl (sym c.is_opening.ensures ∙ c.if-not-is_opening.true, refl), c.write_fault.ensures))
+
+pub returns-clause-run : goal.returns-clause-run
+returns-clause-run g c =
+    IfOk-weaker c.run_text.result _ _
+    (λ r h source known.
+    let same = same_reading thread_script_of (long_scripts thread_command_of) (g.R.Read.remaining c.args.reader.now) (g.R.Read.remaining c.read_past.new.reader) source c.in-Ok.text.items known c.in-Ok.ensures.read c.in-Ok.ensures.end in
+    (h.0, subst (λ says. RunsToEnd says c.args.opening r.core r.images.items h.0) (ap thread_script_of c.as_slice.ensures.value ∙ sym same) h.1, h.2))
+    c.run_text.ensures.run
+
+pub returns-clause-fault : goal.returns-clause-fault
+returns-clause-fault g c =
+    let old = g.W.Write.contents c.args.writer.now in
+    let new = g.W.Write.contents c.run_text.new.writer in
+    IfErr-weaker c.run_text.result _ _
+    (λ f h source known.
+    let same = same_reading thread_script_of (long_scripts thread_command_of) (g.R.Read.remaining c.args.reader.now) (g.R.Read.remaining c.read_past.new.reader) source c.in-Ok.text.items known c.in-Ok.ensures.read c.in-Ok.ensures.end in
+    subst (λ says. EndsInThreads says c.args.opening old new f) (ap thread_script_of c.as_slice.ensures.value ∙ sym same) h)
+    c.run_text.ensures.fault
