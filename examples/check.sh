@@ -9,6 +9,9 @@ for script in bank conflict upgrade checkpoint; do
 done
 diff <(./tour.sh) tour.expected
 echo "tour.sh: as expected"
-diff <(sed -n '/^```rust$/,/^```$/p' ../README.md | sed '1d;$d') <(tail -n +3 ../crates/calcdb/src/tests/embedding.rt)
-echo "README.md: shows the embedding test as it is"
+for shown in README.md=embedding docs/EMBEDDING.md=service; do
+    page=${shown%=*} test=${shown#*=}
+    diff <(sed -n '/^```rust$/,/^```$/p' "../$page" | sed '1d;$d') <(tail -n +3 "../crates/calcdb/src/tests/$test.rt")
+    echo "$page: shows the test $test as it is"
+done
 ./threads.sh

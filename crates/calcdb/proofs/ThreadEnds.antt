@@ -73,9 +73,10 @@ module _ (count : ℕ) (keys : List Bytes) (core : CoreView) (images : List Imag
         sent_after f old mid new (run_text count (call_count core.log) (length images) (Ok tt)) text before sent,
       )
 
--- what is told of a result that is one
-pub told_ok : {X E : Type 0} (r : Result X E) (x : X) (P : X → Type 0) → r ≡ Ok x → IfOk r P → P x
-told_ok r x P is h = subst (λ y. IfOk y P) is h
+-- two clauses of a result, as one
+pub ok_with : {X E : Type 0} (r : Result X E) (P Q R : X → Type 0) → ((x : X) → P x → Q x → R x) → IfOk r P → IfOk r Q → IfOk r R
+ok_with (Ok x) P Q R join p q = join x p q
+ok_with (Err e) P Q R join p q = tt
 
 module _ (n m : ℕ) (ks js : List Bytes) where
   -- in the words of the script

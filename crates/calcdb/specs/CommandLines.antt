@@ -7,6 +7,7 @@ use Rattle.clap.specs.Values.{kind_of}
 use Rattle.clap.specs.Walk.{Row, Rule, Text, all_of, first_of}
 use Rattle.clap.specs.Simple.{App, new_app, new_rule, on_top, subcommand_of, with_rule, with_subcommand}
 use Rattle.clap.specs.declared.builder.action.ArgAction.TheVariants.{Append, SetTrue}
+use Rattle.clap.specs.declared.builder.value_parser.ValueParser.TheVariants.{NonEmptyString}
 use Rattle.clap.specs.declared.error.Error.{Error}
 use Rattle.clap.specs.declared.error.kind.ErrorKind.TheVariants.{MissingSubcommand}
 use Rattle.calcdb.specs.declared.command_line.Task.{Task}
@@ -28,6 +29,10 @@ switched flag name = record (new_rule name) { long = Some flag; action = Some Se
 abbrev pub repeated : Text → Rule
 repeated name = record (required name) { action = Some Append }
 
+-- one that names what is written, and isn't empty
+abbrev pub written : Rule → Rule
+written rule = record rule { parser = Some NonEmptyString }
+
 -- a command with these arguments
 abbrev pub app : Text → List Rule → App
 app name rules = fold with_rule (new_app name) rules
@@ -36,19 +41,19 @@ app name rules = fold with_rule (new_app name) rules
 abbrev pub run_app : App
 run_app =
     app (codes "run")
-    (required (codes "SCRIPT") ∷ flagged (codes "open") (codes "IMAGE") ∷ flagged (codes "out") (codes "DIR") ∷ switched (codes "threads") (codes "THREADS") ∷ [])
+    (required (codes "SCRIPT") ∷ flagged (codes "open") (codes "IMAGE") ∷ written (flagged (codes "out") (codes "DIR")) ∷ switched (codes "threads") (codes "THREADS") ∷ [])
 
 -- `load PAIRS OUT`
 abbrev pub load_app : App
-load_app = app (codes "load") (required (codes "PAIRS") ∷ required (codes "OUT") ∷ [])
+load_app = app (codes "load") (required (codes "PAIRS") ∷ written (required (codes "OUT")) ∷ [])
 
 -- `merge OUT IMAGE...`
 abbrev pub merge_app : App
-merge_app = app (codes "merge") (required (codes "OUT") ∷ repeated (codes "IMAGE") ∷ [])
+merge_app = app (codes "merge") (written (required (codes "OUT")) ∷ repeated (codes "IMAGE") ∷ [])
 
 -- `recover SCRIPT LOG OUT IMAGE...`
 abbrev pub recover_app : App
-recover_app = app (codes "recover") (required (codes "SCRIPT") ∷ required (codes "LOG") ∷ required (codes "OUT") ∷ repeated (codes "IMAGE") ∷ [])
+recover_app = app (codes "recover") (required (codes "SCRIPT") ∷ required (codes "LOG") ∷ written (required (codes "OUT")) ∷ repeated (codes "IMAGE") ∷ [])
 
 -- `show FILE`
 abbrev pub show_app : App
@@ -57,7 +62,7 @@ show_app = app (codes "show") (required (codes "FILE") ∷ [])
 -- the program's commands
 abbrev pub calcdb_app : App
 calcdb_app =
-    let top = on_top (λ s. record s { subcommand_required = true; has_version = true }) (new_app (codes "calcdb")) in
+    let top = on_top (λ s. record s { subcommand_required = true; arg_required_else_help = true; has_version = true }) (new_app (codes "calcdb")) in
     fold (λ a s. with_subcommand a s.top) top (run_app ∷ load_app ∷ merge_app ∷ recover_app ∷ show_app ∷ [])
 
 -- the text of a flag that was given

@@ -1,6 +1,6 @@
 -- What is recovered of the files that a history left: a script with its procedures, its log, and images of it.
-use Rattle.std.specs.Prelude.{◌≡◌, ◌⊎◌, ◌++◌, ℕ, List, [], ◌∷◌, drop, Result, Ok, Err}
-use Rattle.std.specs.List.{AllByRecursion}
+use Rattle.std.specs.Prelude.{◌≡◌, ◌⊎◌, ◌<◌, ◌++◌, ℕ, List, [], ◌∷◌, drop, length, Result, Ok, Err}
+use Rattle.std.specs.List.{AllByRecursion, Contains}
 use Rattle.procedure.specs.Bytes.{Bytes}
 use Rattle.procedure.specs.Procedures.{Procedure}
 use Rattle.commitlog.specs.Cuts.{HasCut}
@@ -11,9 +11,10 @@ use Rattle.commitlog.specs.declared.decoding.Ending.{Ending}
 use Rattle.commitlog.specs.declared.formats.LogHeader.{LogHeader}
 use Rattle.commitlog.specs.declared.formats.Version.{Version}
 use Rattle.image.specs.Images.{Image}
-use Rattle.image.specs.Merges.{last_of, table_of}
+use Rattle.image.specs.Merges.{IsChain, last_of, table_of}
+use Rattle.image.specs.declared.limits.TheConstants.{IMAGES}
 use Rattle.replay.specs.Headers.{NamesCatalog, NamesOpening}
-use Rattle.replay.specs.Promises.{IsChainOf, IsFrontOf, IsHistory, IsImageOf}
+use Rattle.replay.specs.Promises.{FromImages, IsChainOf, IsFrontOf, IsHistory, IsImageOf, Recovers}
 use Rattle.replay.specs.Recovery.{IsRecovery, Recovery}
 use Rattle.replay.specs.Replays.{calls_in, is_torn}
 use Rattle.replay.specs.declared.errors.RecoverError.{RecoverError}
@@ -58,6 +59,16 @@ HasHistory core = (v : Version) (h : LogHeader) → NamesCatalog h core.catalog 
 -- and these are images of its checkpoints
 abbrev pub AreItsImages : CoreView → List Image → Type 0
 AreItsImages core is = AllByRecursion (IsImageOf core.catalog (table_of core.opening) core.log) is
+
+-- of each front of its log's bytes, and of each chain of at most 64 of these images, the last one's cut standing in the
+-- front: the table after the records that stand whole in it is recovered
+abbrev pub AreRecovered : CoreView → List Image → Type 0
+AreRecovered core is =
+    (v : Version) (h : LogHeader) (text : Bytes) (full : Image) (ps : List Image) (x : Result Recovery RecoverError) →
+    NamesCatalog h core.catalog → NamesOpening v h core.opening → IsFrontOf v h core.log text →
+    IsChain full ps → length ps < IMAGES → AllByRecursion (Contains is) (full ∷ ps) → FromImages core.catalog (full ∷ ps) text x →
+    (m left : List Record) × (core.log ≡ m ++ left) × (e : Ending) × IsReading text (Log v h m e) ×
+    (HasCut m (last_of full ps).number → Recovers core.catalog core.opening (last_of full ps).place m e x)
 
 -- PARTS
 

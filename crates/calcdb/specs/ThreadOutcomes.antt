@@ -5,6 +5,7 @@ use Rattle.procedure.specs.Bytes.{Bytes}
 use Rattle.image.specs.Images.{Image}
 use Rattle.image.specs.Openings.{is_opening}
 use Rattle.steps.specs.CoreViews.{CoreView}
+use Rattle.workers.specs.Checkpointed.{IsFrom}
 use Rattle.calcdb.specs.Outcomes.{Refuses}
 use Rattle.calcdb.specs.Plans.{call_commands, keys_of}
 use Rattle.calcdb.specs.ThreadRuns.{RunsInThreads, StopsInThreads}
@@ -15,11 +16,12 @@ use Rattle.calcdb.specs.declared.faults.Reason.TheVariants.{NotAnOpening, NoView
 use Rattle.calcdb.specs.declared.scripts.ScriptFault.{ScriptFault}
 use Rattle.calcdb.specs.declared.scripts.ScriptFault.TheVariants.{Line, Size}
 
--- the opening is one, the text is a script, and it was run in threads
+-- the opening is one, the text is a script, and it was run in threads on a core of its procedures and that opening
 pub record RunsToEnd (says : Result ThreadScript ScriptFault) (opening : Image) (core : CoreView) (images : List Image) (text : Bytes) : Type 0 where
   pub lawful : is_opening opening ≡ true
   pub script : ThreadScript
   pub reads : says ≡ Ok script
+  pub origin : IsFrom script.catalog opening core
   pub runs : RunsInThreads (length (call_commands script.commands)) (keys_of script.commands) core images text
 
 -- why nothing is run: the opening is no opening, the text is no script, or no view was opened

@@ -13,10 +13,41 @@ ghost use Rattle.calcdb.specs.CommandLines as spec;
 ghost use Rattle.calcdb.specs.declared.command_line.Unasked.TheVariants as unasked;
 ghost use Rattle.calcdb.specs.CommandLines.{AsksFor, AsksForNothing, IsRefused, IsTask, calcdb_app, load_app, merge_app, recover_app, run_app, show_app};
 
+use clap::builder::ValueParser;
 use clap::error::ErrorKind;
 use clap::{Arg, ArgAction, ArgMatches, Command, Error};
 use std::alloc::{AllocError, Global};
 use std::convert::AsStr;
+
+/// What stands at the end of the program's help.
+const NOTES: &str = "\
+Statuses:
+  0  done; a script's own refusals are answers
+  1  an input is faulty or refused, a file can't be read or written, or there is no memory
+  2  the command line is faulty
+
+A file that is made takes its name when it is whole, and replaces what has the name. docs/FORMATS.md has
+the language of scripts, and the bytes of images and logs.";
+
+const RUN_NOTES: &str = "\
+DIR must be there. At the end of the run it gets 0.img, the opening, N.img of each image that the script
+took, and log. Images of an earlier run stay, so use an empty folder.
+
+Example: calcdb run bank.calc --open opening.img --out bank";
+
+const LOAD_NOTES: &str = "\
+Each line of PAIRS has a key and its value: #17 is a number, 'text the bytes of a text, x00ff bytes.
+
+Example: calcdb load pairs.txt opening.img";
+
+const MERGE_NOTES: &str = "Example: calcdb merge merged.img 1.img 2.img 3.img";
+
+const RECOVER_NOTES: &str = "\
+LOG may be cut off anywhere: its whole records count. The image is one to open the next run with.
+
+Example: calcdb recover bank.calc bank/log opening.img bank/1.img bank/2.img";
+
+const SHOW_NOTES: &str = "Example: calcdb show bank/log";
 
 /// The files of a run.
 #[derive(Clone, Copy, Debug)]
@@ -94,15 +125,24 @@ fn repeated<'a>(alloc: Global, name: &'a str, help: &'a str) -> Arg<'a>
     required(alloc, name, help).action(ArgAction::Append)
 }
 
+/// One that names what is written, and isn't empty.
+fn written<'a>(argument: Arg<'a>) -> Arg<'a>
+    ensures rule { rule_of result ≡ spec.written (rule_of argument.entry) }
+    ensures local { result.global ≡ argument.entry.global }
+{
+    argument.value_parser(ValueParser::NonEmptyString)
+}
+
 fn described_run<'a>(alloc: Global) -> Result<Command<'a>, AllocError>
     ensures app { IfOk result (λ c. app_of c ≡ run_app) }
     ensures local { IfOk result (λ c. (out-Command c).has_globals ≡ false) }
 {
     Command::new(alloc, "run")
         .about("Runs a script, and prints one answer for each command")
+        .after_help(RUN_NOTES)
         .arg(required(alloc, "SCRIPT", "the file with the script"))?
         .arg(flagged(alloc, "open", "IMAGE", "the image to open from"))?
-        .arg(flagged(alloc, "out", "DIR", "the folder for the images and the log"))?
+        .arg(written(flagged(alloc, "out", "DIR", "the folder for the images and the log")))?
         .arg(switched(alloc, "threads", "THREADS", "runs it in threads"))
 }
 
@@ -112,8 +152,9 @@ fn described_load<'a>(alloc: Global) -> Result<Command<'a>, AllocError>
 {
     Command::new(alloc, "load")
         .about("Makes an opening image of keys and values, and prints its header")
+        .after_help(LOAD_NOTES)
         .arg(required(alloc, "PAIRS", "the file with the pairs"))?
-        .arg(required(alloc, "OUT", "the file for the image"))
+        .arg(written(required(alloc, "OUT", "the file for the image")))
 }
 
 fn described_merge<'a>(alloc: Global) -> Result<Command<'a>, AllocError>
@@ -122,7 +163,8 @@ fn described_merge<'a>(alloc: Global) -> Result<Command<'a>, AllocError>
 {
     Command::new(alloc, "merge")
         .about("Makes one image of a full one and the partial ones after it, and prints its header")
-        .arg(required(alloc, "OUT", "the file for the merged image"))?
+        .after_help(MERGE_NOTES)
+        .arg(written(required(alloc, "OUT", "the file for the merged image")))?
         .arg(repeated(alloc, "IMAGE", "the images, the full one first"))
 }
 
@@ -134,9 +176,10 @@ fn described_recover<'a>(alloc: Global) -> Result<Command<'a>, AllocError>
         .about(
             "Makes an opening image of what images and a log hold, and prints what was recovered",
         )
+        .after_help(RECOVER_NOTES)
         .arg(required(alloc, "SCRIPT", "a script with the procedures"))?
         .arg(required(alloc, "LOG", "the file with the log"))?
-        .arg(required(alloc, "OUT", "the file for the image"))?
+        .arg(written(required(alloc, "OUT", "the file for the image")))?
         .arg(repeated(alloc, "IMAGE", "the images, the full one first"))
 }
 
@@ -146,6 +189,7 @@ fn described_show<'a>(alloc: Global) -> Result<Command<'a>, AllocError>
 {
     Command::new(alloc, "show")
         .about("Prints an image or a log")
+        .after_help(SHOW_NOTES)
         .arg(required(alloc, "FILE", "the file with the image or the log"))
 }
 
@@ -171,8 +215,10 @@ fn described<'a>(alloc: Global) -> Result<Command<'a>, AllocError>
 {
     let program = Command::new(alloc, "calcdb")
         .about("An in-memory key-value engine with stored procedures")
+        .after_help(NOTES)
         .version("0.1.0")
-        .subcommand_required(true);
+        .subcommand_required(true)
+        .arg_required_else_help(true);
     let program = with_command(program, described_run(alloc))?;
     let program = with_command(program, described_load(alloc))?;
     let program = with_command(program, described_merge(alloc))?;

@@ -5,11 +5,9 @@ ghost use Rattle.commitlog.specs.LogReadings.{IsHeader};
 ghost use Rattle.commitlog.specs.declared.formats.Version.TheVariants.{Two};
 ghost use Rattle.replay.specs.Headers.{NamesCatalog, NamesOpening};
 ghost use Rattle.replay.specs.declared.errors.AuditError.TheVariants as refused;
-ghost use Rattle.workers.specs.Checkpointed.{call_count};
-ghost use Rattle.workers.specs.Claims as claims;
 
 use crate::laws::recovery_law;
-use commitlog::{Entry, LogHeader, Record, encode};
+use commitlog::{LogHeader, encode};
 use image::seal;
 use procedure::NoMemory;
 use replay::{AuditError, audit};
@@ -39,20 +37,4 @@ pub(crate) fn audit_core<A: Allocator + Copy>(alloc: A, core: &Core<A>) -> Resul
     let log = encode(alloc, &header, core.records())?;
     let _audited = audit(alloc, core.catalog(), core.opening(), log.as_slice())?;
     Ok(())
-}
-
-fn is_call<A: Allocator>(found: &Record<A>) -> bool
-    ensures { result ≡ claims.is_call found.now }
-{
-    match found.entry() {
-        Entry::Call { .. } => true,
-        Entry::Token { .. } => false,
-    }
-}
-
-/// How many calls a log has.
-pub(crate) fn count_calls<A: Allocator>(records: &[Record<A>]) -> usize
-    ensures { result ≡ call_count records.now }
-{
-    records.iter().filter(|found| is_call(found)).count()
 }

@@ -1,6 +1,7 @@
 //! The files that the program reads, and the images that it writes to files.
 
 use crate::faults::failures::{Failure, OutFile};
+use crate::new_files::begin;
 use image::{Image, WriteError, seal_to};
 use std::alloc::Allocator;
 use std::fs;
@@ -68,25 +69,6 @@ where
     Ok(files)
 }
 
-/// Makes a file, or empties the one that is there.
-pub(crate) fn create<'a, R: Files, A: Allocator>(
-    alloc: A,
-    rt: &R,
-    file: OutFile<'a>,
-) -> Result<R::File, Failure<'a>>
-where
-    R::File: Drop,
-{
-    let created = match file {
-        OutFile::Named(name) => fs::create(rt, name),
-        OutFile::InFolder(..) => {
-            let path = file.to_string(alloc)?;
-            fs::create(rt, path.as_str())
-        }
-    };
-    created.map_err(|_| Failure::CannotWrite(file))
-}
-
 /// Sees that what was written is out; else it is this failure.
 pub(crate) fn flush<'a, W: Write>(writer: &mut W, failure: Failure<'a>) -> Result<(), Failure<'a>> {
     writer.flush().map_err(|_| failure)
@@ -116,6 +98,7 @@ pub(crate) fn write_image<'a, R: Files, A: Allocator + Copy>(
 where
     R::File: Drop,
 {
-    let mut writer = create(alloc, rt, file)?;
-    write_sealed(alloc, &mut writer, file, image)
+    let mut new = begin(alloc, rt, file)?;
+    let written = write_sealed(alloc, &mut new, file, image);
+    new.end(rt, written)
 }

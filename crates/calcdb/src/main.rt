@@ -21,6 +21,7 @@ mod line_by_line;
 mod lines;
 mod looking;
 mod merge_files;
+mod new_files;
 mod output;
 mod pairs;
 mod plans;

@@ -316,7 +316,7 @@ fn concluded<E: Write>(err: &mut E, done: Result<(), Failure<'_>>) -> u8 {
 /// Does what the words ask for, of which the first is the program's name, and returns the status of
 /// the process: 0 where it is done, also with refusals inside a script; 1 where an input is refused, a
 /// file can't be read or written, or there is no memory; 2 where the command line is faulty. The command
-/// line takes its memory from the runtime, and the work from `alloc`. A run in threads has `threads` for them.
+/// line takes its memory from the runtime, and the work from `alloc`. `threads` starts the threads of a run.
 pub(crate) fn perform<
     T: Threads + Wait + Sync,
     R: Files + AllocGlobal,

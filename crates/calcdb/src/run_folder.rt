@@ -5,7 +5,8 @@ ghost use Rattle.commitlog.specs.declared.limits.TheConstants.{LOG_RECORDS};
 
 use crate::engine::Ran;
 use crate::faults::failures::{Failure, OutFile, RunFile};
-use crate::files::{create, flush, write_image, write_sealed};
+use crate::files::{flush, write_image, write_sealed};
+use crate::new_files::begin;
 use commitlog::{LogHeader, Record, WriteError, encode_to};
 use image::Image;
 use sha2::{Digest, Sha256};
@@ -15,12 +16,12 @@ use std::rt::Files;
 
 /// A writer that digests what goes out, so that an image is neither sealed twice nor held in memory.
 #[derive(Drop)]
-struct Digesting<W: Drop> {
-    writer: W,
+struct Digesting<'a, W> {
+    writer: &'a mut W,
     hasher: Sha256,
 }
 
-impl<W: Write + Drop> Write for Digesting<W> {
+impl<W: Write> Write for Digesting<'_, W> {
     fn write(&mut self, buf: &[u8]) -> io::Result<usize> {
         let taken = self.writer.write(buf)?;
         self.hasher.update(&buf[..taken]);
@@ -30,6 +31,21 @@ impl<W: Write + Drop> Write for Digesting<W> {
     fn flush(&mut self) -> io::Result<()> {
         self.writer.flush()
     }
+}
+
+/// Writes the bytes of the opening to what stands for its file, and returns their digest.
+fn write_digested<'a, W: Write, A: Allocator>(
+    alloc: A,
+    writer: &mut W,
+    file: OutFile<'a>,
+    opening: &Image<A>,
+) -> Result<[u8; 32], Failure<'a>> {
+    let mut digesting = Digesting {
+        writer,
+        hasher: Sha256::new(),
+    };
+    write_sealed(alloc, &mut digesting, file, opening)?;
+    Ok(digesting.hasher.finalize())
 }
 
 /// Makes the file of the opening, and returns the digest of its bytes.
@@ -43,12 +59,29 @@ where
     R::File: Drop,
 {
     let file = OutFile::InFolder(folder, RunFile::Image(0));
-    let mut writer = Digesting {
-        writer: create(alloc, rt, file)?,
-        hasher: Sha256::new(),
+    let mut new = begin(alloc, rt, file)?;
+    let digest = write_digested(alloc, &mut new, file, opening);
+    new.end(rt, digest)
+}
+
+/// Writes the bytes of the log to what stands for its file.
+fn write_records<'a, W: Write, A: Allocator + Copy>(
+    alloc: A,
+    writer: &mut W,
+    file: OutFile<'a>,
+    header: &LogHeader,
+    records: &[Record<A>],
+) -> Result<(), Failure<'a>>
+    requires { length records.now ≤ LOG_RECORDS }
+{
+    let Ok(mut writer) = BufWriter::new(alloc, writer) else {
+        return Err(Failure::NoMemory);
     };
-    write_sealed(alloc, &mut writer, file, opening)?;
-    Ok(writer.hasher.finalize())
+    match encode_to(alloc, &mut writer, header, records) {
+        Ok(()) => flush(&mut writer, Failure::CannotWrite(file)),
+        Err(WriteError::WriteFault) => Err(Failure::CannotWrite(file)),
+        Err(WriteError::NoMemory) => Err(Failure::NoMemory),
+    }
 }
 
 /// Makes the file of the log.
@@ -64,18 +97,13 @@ where
     requires { length records.now ≤ LOG_RECORDS }
 {
     let file = OutFile::InFolder(folder, RunFile::Log);
-    let Ok(mut writer) = BufWriter::new(alloc, create(alloc, rt, file)?) else {
-        return Err(Failure::NoMemory);
-    };
-    match encode_to(alloc, &mut writer, header, records) {
-        Ok(()) => flush(&mut writer, Failure::CannotWrite(file)),
-        Err(WriteError::WriteFault) => Err(Failure::CannotWrite(file)),
-        Err(WriteError::NoMemory) => Err(Failure::NoMemory),
-    }
+    let mut new = begin(alloc, rt, file)?;
+    let written = write_records(alloc, &mut new, file, header, records);
+    new.end(rt, written)
 }
 
 /// Writes a run into a folder that is there: its opening as `0.img`, each image that it took by its
-/// number, and its log. Each file is out before the next is made, and after one that can't be written
+/// number, and its log. Each file is on disk before the next is made, and after one that can't be written
 /// there is no other.
 pub(crate) fn write_run<'a, R: Files, A: Allocator + Copy>(
     alloc: A,

@@ -12,11 +12,12 @@ use crate::instructions::is_word;
 use crate::lines::{end_of, first_word, word_at};
 use crate::values::{held_of, key_of};
 use image::Kind;
+use procedure::limits::SESSIONS;
 use procedure::{Key, Sequence, Value};
 use std::alloc::Allocator;
 
 /// The greatest number of a session.
-const LAST_SESSION: u16 = 63;
+const LAST_SESSION: u16 = SESSIONS - 1;
 
 /// A command of a script that is run in threads. Its arguments are `Sequence<Value<A>, A>` in the program, and
 /// lists of byte strings in the definitions of `specs/`.

@@ -6,7 +6,7 @@ ghost use mathlib.Core.List.{IsPrefix};
 ghost use Rattle.image.specs.Openings.{is_opening};
 ghost use Rattle.procedure.specs.Bytes.{Bytes};
 ghost use Rattle.view.specs.Views.{name_of};
-ghost use Rattle.workers.specs.Checkpointed.{AreCuts, call_count};
+ghost use Rattle.workers.specs.Checkpointed.{IsFrom, call_count};
 ghost use Rattle.calcdb.specs.Outcomes.{Refuses};
 ghost use Rattle.calcdb.specs.Plans.{call_commands, keys_of};
 ghost use Rattle.calcdb.specs.Runs.{Sent};
@@ -16,7 +16,7 @@ ghost use Rattle.calcdb.specs.Scripts.{thread_script_of};
 ghost use Rattle.calcdb.specs.declared.faults.Fault.TheVariants as fault;
 ghost use Rattle.calcdb.specs.declared.faults.Reason.TheVariants as reason;
 
-use crate::core_audits::{audit_core, count_calls};
+use crate::core_audits::audit_core;
 use crate::engine::{Ran, refuse_script};
 use crate::faults::refusals::write_fault;
 use crate::faults::{Fault, Reason};
@@ -30,13 +30,14 @@ use procedure::{Key, NoMemory};
 use replay::AuditError;
 use std::alloc::Allocator;
 use std::io::{Read, Write};
-use std::marker::{Brand, Model};
+use std::marker::{Brand, PhantomData};
 use std::sync::Wait;
 use std::sync::atomic::{AtomicBool, Ordering};
 use std::thread::{self, Threads};
 use steps::Core;
 use view::{Naming, Opened, Publisher, Told, open_view};
-use workers::{Gate, Open, Report, run_all};
+use workers::checkpointed::{Checkpointed, count_calls};
+use workers::{Gate, Open, Origin, Report, run_all};
 
 /// Writes the lines of a run: its calls, its images and its audit.
 fn write_ran<W: Write, A: Allocator + Copy>(
@@ -104,27 +105,26 @@ fn look_each<J: Naming, W: Write, A: Allocator + Copy>(
     Ok(())
 }
 
-/// A core, and the images that were taken of it, in order. Each is that of its checkpoint in the core's log.
+/// A core of the procedures and the opening that the name says.
 #[derive(Drop)]
-struct Taken<A: Allocator> {
+struct Named<J: Origin, A: Allocator> {
     core: Core<A>,
-    images: Vec<Image<A>, A>,
+    name: PhantomData<J>,
+    ghost origin: { IsFrom J.catalog J.opening core },
 }
 
-impl<A: Allocator> Model for Taken<A> {
-    ghost use Rattle.workers.specs.Checkpointed as spec;
-
-    ghost Value = { spec.Checkpointed };
-
-    ghost view = { λ t. record { core = t.core; images = t.images.items } };
-
-    ghost invariant = { λ t. spec.AreCuts t.core t.images.items };
+/// Such a core after a run, with its images.
+#[derive(Drop)]
+struct Ended<J: Origin, A: Allocator> {
+    taken: Checkpointed<A>,
+    name: PhantomData<J>,
+    ghost origin: { IsFrom J.catalog J.opening taken.core },
 }
 
 /// Runs scripts and makes checkpoints, and then says that they have ended. The publisher comes back, with what
 /// it published.
 fn run_to_end<
-    J: Naming + Send + Sync,
+    J: Naming + Origin + Send + Sync,
     Q: Wait + Drop + Send + Sync,
     T: Threads + Wait + Sync,
     A: Allocator + Copy + Send + Sync,
@@ -132,13 +132,14 @@ fn run_to_end<
 >(
     threads: &T,
     alloc: A,
-    core: Core<A>,
+    named: Named<J, A>,
     scripts: Vec<workers::Script<A>, A>,
     kinds: &[Kind],
     publisher: Publisher<J, Q, A>,
     gate: &G,
     ended: &AtomicBool,
-) -> Result<(Taken<A>, Publisher<J, Q, A>, Told<J, A>), NoMemory> {
+) -> Result<(Ended<J, A>, Publisher<J, Q, A>, Told<J, A>), NoMemory> {
+    let Named { core, name } = named;
     let ran = run_all(threads, alloc, core, scripts, kinds, publisher, gate);
     ended.store(true, Ordering::Relaxed);
     match ran {
@@ -151,17 +152,18 @@ fn run_to_end<
                 publisher,
                 last,
             } = report;
-            Ok((Taken { core, images }, publisher, last))
+            let taken = Checkpointed::from_parts(core, images);
+            Ok((Ended { taken, name }, publisher, last))
         }
         Err(_) => Err(NoMemory),
     }
 }
 
 /// Writes what came of a run, and the lines of the keys, by a reader that learns what was published last.
-fn finish_run<J: Naming, Q: Wait + Drop, W: Write, A: Allocator + Copy>(
+fn finish_run<J: Naming + Origin, Q: Wait + Drop, W: Write, A: Allocator + Copy>(
     alloc: A,
     writer: &mut W,
-    taken: Taken<A>,
+    ended: Ended<J, A>,
     publisher: Publisher<J, Q, A>,
     last: Told<J, A>,
     reader: Reader<J, A>,
@@ -169,9 +171,10 @@ fn finish_run<J: Naming, Q: Wait + Drop, W: Write, A: Allocator + Copy>(
     count: usize,
 ) -> Result<Ran<A>, Fault>
     ensures ok { IfOk result (λ r. (text : Bytes) × RunsInThreads count keys.items r.core r.images.items text × Appends (W.contents writer.old) (W.contents writer.new) text) }
+    ensures origin { IfOk result (λ r. IsFrom J.catalog J.opening r.core) }
     ensures err { IfErr result (StopsInThreads count keys.items (W.contents writer.old) (W.contents writer.new)) }
 {
-    let Taken { core, images } = taken;
+    let (core, images) = ended.taken.into_parts();
     let ran = Ran { core, images };
     write_ran(alloc, writer, &ran, count)?;
     look_each(alloc, writer, learn(reader, last), keys.as_slice())?;
@@ -184,7 +187,7 @@ fn finish_run<J: Naming, Q: Wait + Drop, W: Write, A: Allocator + Copy>(
 /// of it.
 fn run_plan<
     'a,
-    J: Naming + Send + Sync,
+    J: Naming + Origin + Send + Sync,
     W: Write,
     T: Threads + Wait + Sync,
     A: Allocator + Copy + Send + Sync,
@@ -192,12 +195,13 @@ fn run_plan<
     threads: &'a T,
     alloc: A,
     writer: &mut W,
-    core: Core<A>,
+    named: Named<J, A>,
     plan: Plan<A>,
     publisher: Publisher<J, &'a T, A>,
     reader: Reader<J, A>,
 ) -> Result<Ran<A>, Fault>
     ensures ok { IfOk result (λ r. (text : Bytes) × RunsInThreads plan.count plan.keys.items r.core r.images.items text × Appends (W.contents writer.old) (W.contents writer.new) text) }
+    ensures origin { IfOk result (λ r. IsFrom J.catalog J.opening r.core) }
     ensures err { IfErr result (StopsInThreads plan.count plan.keys.items (W.contents writer.old) (W.contents writer.new)) }
 {
     let Plan {
@@ -212,12 +216,12 @@ fn run_plan<
     let asked = kinds.as_slice();
     let looks = move || look_beside(threads, reader, wanted, ended);
     let runs = move || run_to_end(
-        threads, alloc, core, scripts, asked, publisher, &Open, ended,
+        threads, alloc, named, scripts, asked, publisher, &Open, ended,
     );
     let (reader, ran) = thread::join(threads, looks, runs);
     match ran {
-        Ok((taken, publisher, last)) => {
-            finish_run(alloc, writer, taken, publisher, last, reader, keys, count)
+        Ok((ended, publisher, last)) => {
+            finish_run(alloc, writer, ended, publisher, last, reader, keys, count)
         }
         Err(NoMemory) => Err(Fault::NoMemory),
     }
@@ -225,7 +229,7 @@ fn run_plan<
 
 /// Carries out a plan on a core, in a view of its own.
 fn run_in_view<
-    J: Naming + Send + Sync,
+    J: Naming + Origin + Send + Sync,
     W: Write,
     T: Threads + Wait + Sync,
     A: Allocator + Copy + Send + Sync,
@@ -237,14 +241,25 @@ fn run_in_view<
     plan: Plan<A>,
     opened: Opened<A>,
 ) -> Result<Ran<A>, Fault>
-    requires { name_of opened ≡ J.book }
+    requires name { name_of opened ≡ J.book }
+    requires origin { IsFrom J.catalog J.opening core }
     ensures ok { IfOk result (λ r. (text : Bytes) × RunsInThreads plan.count plan.keys.items r.core r.images.items text × Appends (W.contents writer.old) (W.contents writer.new) text) }
+    ensures origin { IfOk result (λ r. IsFrom J.catalog J.opening r.core) }
     ensures err { IfErr result (λ f. Refuses (fault.Refused reason.NoView) (W.contents writer.old) (W.contents writer.new) f ⊎ StopsInThreads plan.count plan.keys.items (W.contents writer.old) (W.contents writer.new) f) }
 {
     match open_view::<J, &T, A>(alloc, threads, opened) {
         Ok((publisher, looker, seen)) => {
+            let name = PhantomData;
             let reader = Reader { looker, seen };
-            run_plan(threads, alloc, writer, core, plan, publisher, reader)
+            run_plan(
+                threads,
+                alloc,
+                writer,
+                Named { core, name },
+                plan,
+                publisher,
+                reader,
+            )
         }
         Err(_) => {
             let refused = Fault::Refused(Reason::NoView);
@@ -263,6 +278,7 @@ fn run_opened<W: Write, T: Threads + Wait + Sync, A: Allocator + Copy + Send + S
 ) -> Result<Ran<A>, Fault>
     requires { is_opening opening ≡ true }
     ensures ok { IfOk result (λ r. (text : Bytes) × RunsInThreads (length (call_commands script.commands)) (keys_of script.commands) r.core r.images.items text × Appends (W.contents writer.old) (W.contents writer.new) text) }
+    ensures origin { IfOk result (λ r. IsFrom script.catalog opening r.core) }
     ensures err { IfErr result (λ f. Refuses (fault.Refused reason.NoView) (W.contents writer.old) (W.contents writer.new) f ⊎ StopsInThreads (length (call_commands script.commands)) (keys_of script.commands) (W.contents writer.old) (W.contents writer.new) f) }
 {
     let Script { catalog, commands } = script;
@@ -307,8 +323,8 @@ pub(crate) fn run_threads<
     T: Threads + Wait + Sync,
     A: Allocator + Copy + Send + Sync,
 >(threads: &T, alloc: A, reader: &mut R, writer: &mut W, opening: Image<A>) -> Result<Ran<A>, Fault>
-    // Where the reader tells its bytes: each image is that of its checkpoint in the core's log, the log passes
-    // its audit, and the lines of all that were written.
+    // Where the reader tells its bytes: the core has the script's procedures and the opening, each image is that
+    // of its checkpoint in its log, the log passes its audit, and the lines of all that were written.
     ensures run { IfOk result (λ r. (source : Bytes) → R.remaining reader.old ≡ Some source → (text : Bytes) × RunsToEnd (thread_script_of source) opening r.core r.images.items text × Appends (W.contents writer.old) (W.contents writer.new) text) }
     // And else the one line of the fault, or a beginning of these lines.
     ensures fault { IfErr result (λ f. (source : Bytes) → R.remaining reader.old ≡ Some source → EndsInThreads (thread_script_of source) opening (W.contents writer.old) (W.contents writer.new) f) }

@@ -263,6 +263,22 @@ fn call_length<A: Allocator>(call: &Call<A>, outcome: u8, replies: &[Option<Valu
     16 + values_length(call.args.as_slice()) + replies_length(replies)
 }
 
+/// The bytes of the longest body.
+pub(crate) fn longest_body<A: Allocator>(records: &[Record<A>]) -> usize
+    ensures longest { AllByRecursion (λ r. length (body r) ≤ result) records.now }
+    ensures fits { AllByRecursion (Fits Two) records.now }
+    ensures most { result ≤ BODY_BYTES }
+{
+    let mut longest = 0;
+    for record in records {
+        let length = body_length(record);
+        if longest < length {
+            longest = length;
+        }
+    }
+    longest
+}
+
 /// Writes a record after the digest of those before it, and returns its own. Room is made before.
 pub(crate) fn write_record<A: Allocator>(
     out: &mut Vec<u8, A>,

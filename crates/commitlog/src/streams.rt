@@ -15,7 +15,7 @@ ghost use Rattle.procedure.specs.Streams.{IsBegun};
 ghost use Rattle.commitlog.specs.Streams.{IsAnswerFrom, IsUnread, ReadsAs, TellsFrom};
 
 use crate::decoding::{LogError, StoredLog, read_whole};
-use crate::encoding::{write_header, write_record};
+use crate::encoding::{longest_body, write_header, write_record};
 use crate::formats::{LogHeader, Version};
 use crate::records::Record;
 pub use procedure::streams::WriteError;
@@ -87,7 +87,6 @@ fn write_out_record<W: Write, A: Allocator>(
     ensures err { OnErr result (IsBegun (W.contents writer.old) (W.contents writer.new) (record_bytes digest.now «record».now)) }
     ensures digest { IfOk result (λ d. d ≡ next_digest digest.now «record».now) }
     ensures memory { result ≡ Err write_refused.NoMemory → W.contents writer.new ≡ W.contents writer.old }
-    ensures fits { OnOk result (Fits Two «record».now) }
 {
     buffer.clear();
     let digest = write_record(buffer, digest, record)?;
@@ -103,7 +102,6 @@ fn write_out_records<W: Write, A: Allocator>(
 ) -> Result<(), WriteError>
     ensures ok { OnOk result (Appends (W.contents writer.old) (W.contents writer.new) (records_bytes digest records.now)) }
     ensures err { OnErr result (IsBegun (W.contents writer.old) (W.contents writer.new) (records_bytes digest records.now)) }
-    ensures fits { OnOk result (AllByRecursion (Fits Two) records.now) }
 {
     let mut digest = digest;
     for record in records {
@@ -112,8 +110,9 @@ fn write_out_records<W: Write, A: Allocator>(
     Ok(())
 }
 
-/// Writes a log in version 2, a record at a time, as `encode` makes its bytes. After an error, what went
-/// out is a beginning of them.
+/// Writes a log in version 2, a record at a time, as `encode` makes its bytes. It keeps the bytes of one
+/// record in memory. After an error, what went out is a beginning of the log's bytes, and is read again as
+/// any front of them is.
 pub fn encode_to<W: Write, A: Allocator>(
     alloc: A,
     writer: &mut W,
@@ -123,9 +122,11 @@ pub fn encode_to<W: Write, A: Allocator>(
     requires { length records.now ≤ LOG_RECORDS }
     ensures ok { OnOk result (Appends (W.contents writer.old) (W.contents writer.new) (log_bytes Two header.now records.now)) }
     ensures err { OnErr result (IsBegun (W.contents writer.old) (W.contents writer.new) (log_bytes Two header.now records.now)) }
-    ensures fits { OnOk result (AllByRecursion (Fits Two) records.now) }
+    ensures fits { AllByRecursion (Fits Two) records.now }
 {
     let mut buffer = Vec::new(alloc);
+    // Room for the longest record at once.
+    buffer.reserve(4 + longest_body(records) + 32)?;
     write_header(&mut buffer, Version::Two, header)?;
     let digest = Sha256::digest(buffer.as_slice());
     write_out(writer, buffer.as_slice())?;

@@ -1,6 +1,5 @@
 pub mod Modes
 pub mod Locks
 pub mod Holders
-pub mod Indexes
 pub mod Tables
 pub mod Changes

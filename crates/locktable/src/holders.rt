@@ -29,7 +29,7 @@ impl Holders {
     }
 
     /// These and a session's lock; None where the lock of another session excludes it.
-    fn with(self, session: usize, mode: Mode) -> Option<Holders>
+    pub(crate) fn with(self, session: usize, mode: Mode) -> Option<Holders>
         requires { session < SESSIONS }
         ensures granted { IfSome result (λ holders. ChangesTo (Some self) (Some holders) session (Some (stronger (mode_in self session) mode))) }
         ensures refused { IsNone result ↔ Refuses (Some self) session mode }
@@ -55,7 +55,7 @@ impl Holders {
     }
 
     /// These, where a session's lock becomes no stronger than it is.
-    fn weakened(self, session: usize, mode: Option<Mode>) -> Option<Holders>
+    pub(crate) fn weakened(self, session: usize, mode: Option<Mode>) -> Option<Holders>
         requires session { session < SESSIONS }
         requires weaker { IsAtMost mode (mode_in self session) }
         ensures others { ChangesTo (Some self) result session mode }
@@ -125,37 +125,5 @@ pub(crate) fn is_nobody(holders: Option<Holders>) -> bool
     match holders {
         Some(_) => false,
         None => true,
-    }
-}
-
-/// The holders of a key, where a session is granted a lock; None where another session's excludes
-/// it.
-pub(crate) fn granted(before: Option<Holders>, session: usize, mode: Mode) -> Option<Holders>
-    requires { session < SESSIONS }
-    ensures granted { IfSome result (λ holders. ChangesTo before (Some holders) session (Some (stronger (mode_among before session) mode))) }
-    ensures refused { IsNone result ↔ Refuses before session mode }
-{
-    match before {
-        Some(holders) => holders.with(session, mode),
-        None => Some(Holders::one(session, mode)),
-    }
-}
-
-/// The holders of a key, where a session's lock becomes no stronger than it is; None where there
-/// is no holder.
-pub(crate) fn weakened(
-    before: Option<Holders>,
-    session: usize,
-    mode: Option<Mode>,
-) -> Option<Holders>
-    requires session { session < SESSIONS }
-    requires weaker { IsAtMost mode (mode_among before session) }
-    ensures others { ChangesTo before result session mode }
-    ensures held { IfSome result IsHeld }
-    ensures present { IsSome result → IsSome before }
-{
-    match before {
-        Some(holders) => holders.weakened(session, mode),
-        None => None,
     }
 }

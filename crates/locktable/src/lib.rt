@@ -7,7 +7,7 @@
 
 pub mod errors;
 mod holders;
-mod indexes;
+mod key_holders;
 pub mod laws;
 pub mod locks;
 pub mod modes;

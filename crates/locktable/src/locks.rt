@@ -1,15 +1,17 @@
 //! The table of locks.
 
-ghost use Rattle.std.specs.Prelude.{◌≡◌, ◌≢◌, ◌<◌, ◌↔◌, None, Some, Err, IfNone, IfOk, IfSome, IsOk, IsSome, IsTrue, OnErr, OnOk, if◌then◌else◌, is_ok, length, replicate};
+ghost use Rattle.std.specs.Prelude.{◌≡◌, ◌≢◌, ◌<◌, ◌↔◌, [], ◌∷◌, None, Some, Err, IfNone, IfOk, IfSome, IsPermutation, IsSome, IsTrue, OnErr, OnOk, false, length, replicate, true};
 ghost use Rattle.std.specs.FinMap as map;
-ghost use Rattle.locktable.specs.Locks.{Conflicts, IsConsistent, IsFree, locks_of, mode_of, with_entry, with_lock, without_locks};
+ghost use Rattle.std.specs.List.{list_any};
+ghost use Rattle.procedure.specs.Bytes.{same};
+ghost use Rattle.locktable.specs.Locks.{Conflicts, IsConsistent, IsFree, locks_of, mode_of, with_lock, without_locks};
 ghost use Rattle.locktable.specs.Modes.{IsAtMost, stronger};
-ghost use Rattle.locktable.specs.Tables.{locks_in};
+ghost use Rattle.locktable.specs.Tables.{keys_in};
 
 use crate::errors::LockError;
-use crate::holders::{Holders, granted, is_nobody, mode_among, weakened};
-use crate::indexes::KeyIndex;
-use crate::modes::{Mode, keeps_asked};
+use crate::holders::{is_nobody, mode_among};
+use crate::key_holders::KeyHolders;
+use crate::modes::Mode;
 use procedure::limits::SESSIONS;
 use procedure::{Key, NoMemory};
 use std::alloc::Allocator;
@@ -22,9 +24,10 @@ use std::marker::Model;
 #[derive(Debug, Drop)]
 pub struct LockTable<A: Allocator> {
     /// The sessions that hold each key.
-    holders: KeyIndex<Holders, A>,
-    /// What each session holds, so that its locks are found without a look at those of others.
-    held: Vec<KeyIndex<Mode, A>, A>,
+    holders: KeyHolders<A>,
+    /// The keys that each session holds, each once, so that its locks are found without a look at
+    /// those of others.
+    held: Vec<Vec<Key, A>, A>,
 }
 
 impl<A: Allocator> Model for LockTable<A> {
@@ -39,45 +42,36 @@ impl<A: Allocator> Model for LockTable<A> {
 
     ghost coded = { coded_list (map.code {R = slice_cmp nat_cmp} (coded_list coded_ℕ) mode.the_row.coded) };
 
-    ghost use Rattle.locktable.specs.Tables.{locks_in, IsSound};
+    ghost use Rattle.locktable.specs.Tables.{keys_in, locks_in, IsSound};
 
-    ghost view = { λ t. locks_in t.held.items };
+    ghost view = { λ t. locks_in t.holders (keys_in t.held.items) };
 
-    ghost invariant = { λ t. IsSound t.holders t.held.items };
+    ghost invariant = { λ t. IsSound t.holders (keys_in t.held.items) };
 }
 
-fn nothing_held<A: Allocator + Copy>(alloc: A) -> Result<Vec<KeyIndex<Mode, A>, A>, NoMemory>
-    ensures { IfOk result (λ held. locks_in held.items ≡ replicate SESSIONS map.empty) }
+fn nothing_held<A: Allocator + Copy>(alloc: A) -> Result<Vec<Vec<Key, A>, A>, NoMemory>
+    ensures { IfOk result (λ held. keys_in held.items ≡ replicate SESSIONS []) }
 {
     let mut held = Vec::with_capacity(alloc, SESSIONS as usize)?;
     for _ in 0..SESSIONS {
-        held.push(KeyIndex::new(alloc))?;
+        held.push(Vec::new(alloc))?;
     }
     Ok(held)
 }
 
-/// A session takes a key: what is known of the key and of the session changes, after all growths.
-fn take<A: Allocator>(
-    holders: &mut KeyIndex<Holders, A>,
-    own: &mut KeyIndex<Mode, A>,
-    key: &Key,
-    held: Option<Mode>,
-    those: Holders,
-    mode: Mode,
-) -> Result<(), NoMemory>
-    requires held { held ≡ map.get own.old.entries key.now }
-    requires holders { IsSome held → IsSome (map.get holders.old.entries key.now) }
-    ensures holders { holders.new.entries ≡ (if is_ok result then with_entry holders.old.entries key.now (Some those) else holders.old.entries) }
-    ensures own { own.new.entries ≡ (if is_ok result then with_entry own.old.entries key.now (Some mode) else own.old.entries) }
-    ensures memory { IsSome held → IsOk result }
+/// Takes a key out of a list, in which it is looked for from the end.
+fn take_out<A: Allocator>(keys: &mut Vec<Key, A>, key: &Key)
+    ensures there { list_any (same key.now) keys.old.items ≡ true → IsPermutation keys.old.items (key.now ∷ keys.new.items) }
+    ensures absent { list_any (same key.now) keys.old.items ≡ false → keys.new.items ≡ keys.old.items }
 {
-    if held.is_none() {
-        holders.reserve()?;
-        own.reserve()?;
+    let mut index = keys.len();
+    while index > 0 {
+        index -= 1;
+        if keys[index] == *key {
+            let _key = keys.swap_remove(index);
+            return;
+        }
     }
-    holders.put(key, Some(those));
-    own.put(key, Some(mode));
-    Ok(())
 }
 
 impl<A: Allocator + Copy> LockTable<A> {
@@ -87,7 +81,7 @@ impl<A: Allocator + Copy> LockTable<A> {
     {
         let held = nothing_held(alloc)?;
         Ok(LockTable {
-            holders: KeyIndex::new(alloc),
+            holders: KeyHolders::new(alloc),
             held,
         })
     }
@@ -101,7 +95,7 @@ impl<A: Allocator> LockTable<A> {
         ensures consistent { IsConsistent self.now }
         ensures sessions { length self.now ≡ SESSIONS }
     {
-        self.held[session].get(key)
+        mode_among(self.holders.get(key), session)
     }
 
     /// Whether no session holds a key.
@@ -129,29 +123,22 @@ impl<A: Allocator> LockTable<A> {
         ensures conflict { result ≡ Err LockError.Conflict ↔ Conflicts self.old session key.now mode }
         ensures memory { IsSome (mode_of self.old session key.now) → result ≢ Err LockError.NoMemory }
     {
-        let before = self.holders.get(key);
-        let held = mode_among(before, session);
-        if keeps_asked(held, mode) {
-            return Ok(held);
-        }
-        let Some(holders) = granted(before, session, mode) else {
-            return Err(LockError::Conflict);
-        };
         let own = &mut self.held[session];
-        take(&mut self.holders, own, key, held, holders, mode)?;
-        Ok(held)
+        self.holders.grant(own, session, key, mode)
     }
 
     /// A session holds a key again as it did before a request that it was granted: in the mode in
-    /// which it holds it now, in a weaker one, or not at all.
+    /// which it holds it now, in a weaker one, or not at all. Where it is to hold it no longer, this
+    /// takes longer, the more keys it was granted since.
     pub fn restore(&mut self, session: usize, key: &Key, mode: Option<Mode>)
         requires session { session < SESSIONS }
         requires weaker { IsAtMost mode (mode_of self.old session key.now) }
         ensures { self.new ≡ with_lock self.old session key.now mode }
     {
-        let holders = weakened(self.holders.get(key), session, mode);
-        self.holders.put(key, holders);
-        self.held[session].put(key, mode);
+        self.holders.weaken(session, key, mode);
+        if mode.is_none() {
+            take_out(&mut self.held[session], key);
+        }
     }
 
     /// A session holds nothing any more.
@@ -159,19 +146,21 @@ impl<A: Allocator> LockTable<A> {
         requires { session < SESSIONS }
         ensures { self.new ≡ without_locks self.old session }
     {
-        while let Some(key) = self.lock_of(session) {
-            self.restore(session, &key, None);
-        }
+        while let Some(_key) = self.release(session) {}
     }
 
-    /// Some key that a session holds.
-    fn lock_of(&self, session: usize) -> Option<Key>
+    /// A session lets go of some key that it holds, which is returned; None where it holds none.
+    fn release(&mut self, session: usize) -> Option<Key>
         requires { session < SESSIONS }
-        ensures held { IfSome result (λ key. IsSome (mode_of self.now session key)) }
-        ensures none { IfNone result (locks_of self.now session ≡ map.empty) }
-        ensures sessions { length self.now ≡ SESSIONS }
+        ensures held { IfSome result (λ key. IsSome (mode_of self.old session key)) }
+        ensures released { IfSome result (λ key. self.new ≡ with_lock self.old session key None) }
+        ensures none { IfNone result (locks_of self.old session ≡ map.empty) }
+        ensures same { IfNone result (self.new ≡ self.old) }
+        ensures sessions { length self.old ≡ SESSIONS }
     {
-        self.held[session].some_key()
+        let key = self.held[session].pop()?;
+        self.holders.weaken(session, &key, None);
+        Some(key)
     }
 }
 

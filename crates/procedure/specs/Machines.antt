@@ -1,5 +1,6 @@
 -- How the fields of a machine stand for the execution of a call.
-use Rattle.std.specs.Prelude.{◌+◌, ◌≤◌, length, drop, vec_capacity}
+use Rattle.std.specs.Prelude.{◌+◌, ◌≤◌, count_by, length, drop, vec_capacity}
+use Rattle.procedure.specs.Procedures.{is_read}
 use Rattle.procedure.specs.Runs.{Execution}
 use Rattle.procedure.specs.declared.machines.Machine.TheInside.{Inside}
 
@@ -11,7 +12,7 @@ execution_of m =
       progress = record { rest = drop m.place m.code; registers = m.registers.items; replies = m.replies.items; outcome = m.outcome };
     }
 
--- the place is within the code, and there is room for a reply of each instruction that is left
+-- the place is within the code, and there is room for a reply of each read that is left
 pub record IsRunning {A : Type 0} (m : Inside A) : Type 0 where
   pub within : m.place ≤ length m.code
-  pub room : length m.replies.items + length m.code ≤ vec_capacity m.replies + m.place
+  pub room : length m.replies.items + count_by is_read (drop m.place m.code) ≤ vec_capacity m.replies

@@ -70,6 +70,16 @@ need (AbortIf t c) args registers = no_need
 abbrev pub touch : Instruction → List Bytes → List Cell → Touch
 touch i args registers = touch_of (need i args registers)
 
+-- whether it may reply
+abbrev pub is_read : Instruction → Bool
+is_read (Read r k) = true
+is_read (Put k v) = false
+is_read (Insert k v) = false
+is_read (Delete k) = false
+is_read (Add r x y) = false
+is_read (Sub r x y) = false
+is_read (AbortIf t c) = false
+
 -- what an instruction does: the registers after it, what it replies, the outcome by which it ends the call, and what its key becomes
 pub record Effect : Type 0 where
   pub registers : List Cell

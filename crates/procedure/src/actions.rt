@@ -1,9 +1,9 @@
 //! What one instruction asks for and does, over the arguments and registers of a call.
 
-ghost use Rattle.std.specs.Prelude.{◌≡◌, ◌+◌, ◌-◌, ◌<◌, ◌^◌, Some, None, IfOk, OnErr, IsSome, option_copied, slice_set, List};
+ghost use Rattle.std.specs.Prelude.{◌≡◌, ◌+◌, ◌-◌, ◌<◌, ◌^◌, Some, None, IfOk, OnErr, IsSome, ◌&&◌, is_some, option_copied, slice_set, List};
 ghost use Rattle.procedure.specs.Bytes.{Cell};
 ghost use Rattle.procedure.specs.Procedures.{operand_value, as_key, as_number, same_cell, below_cell, holds, need, effect, adding, subtracting, reading, putting, inserting, deleting};
-ghost use Rattle.procedure.specs.Needs.{HasValue, CopiesValue, accessed, write_access};
+ghost use Rattle.procedure.specs.Needs.{HasValue, CopiesValue, accessed, becomes_of, write_access};
 ghost use Rattle.procedure.specs.Actions.{effect_of, number_set};
 
 use crate::instructions::{Instr, Operand, Test};
@@ -51,6 +51,16 @@ fn key_of<A: Allocator>(value: Option<&Value<A>>) -> Option<Key>
     match value {
         Some(value) => Key::new(value.as_bytes()),
         None => None,
+    }
+}
+
+/// The bytes of a value that can be a key.
+fn key_bytes<'a, A: Allocator>(value: Option<&'a Value<A>>) -> Option<&'a [u8]>
+    ensures { option_copied result ≡ as_key (option_copied value.entry) }
+{
+    match value {
+        Some(value) if Key::fits(value.as_bytes()) => Some(value.as_bytes()),
+        _ => None,
     }
 }
 
@@ -106,6 +116,12 @@ fn access_to_write(key: Option<Key>, has_value: bool) -> Access
     }
 }
 
+fn both_given<A: Allocator>(key: Option<&[u8]>, value: Option<&Value<A>>) -> bool
+    ensures { result ≡ (is_some (option_copied key.entry) && is_some (option_copied value.entry)) }
+{
+    key.is_some() && value.is_some()
+}
+
 /// Which key an instruction touches. It takes no memory.
 #[tactic(auto, unfolding(crate::specs::Procedures::need))]
 pub(crate) fn access_of<A: Allocator>(
@@ -129,6 +145,25 @@ pub(crate) fn access_of<A: Allocator>(
             None => Access::Nothing,
         },
         Instr::Add(..) | Instr::Sub(..) | Instr::AbortIf(..) => Access::Nothing,
+    }
+}
+
+/// Whether an instruction gives a value to its key where that is absent. It takes no memory.
+#[tactic(auto, unfolding(crate::specs::Procedures::need))]
+pub(crate) fn gives_value<A: Allocator>(
+    instruction: &Instr<Value<A>>,
+    args: &[Value<A>],
+    registers: &[Option<Value<A>>],
+) -> bool
+    ensures { result ≡ is_some (becomes_of (need instruction.now args.now registers.now) None) }
+{
+    match instruction {
+        Instr::Put(key, value) | Instr::Insert(key, value) => {
+            let key = key_bytes(value_of(key, args, registers));
+            both_given(key, value_of(value, args, registers))
+        }
+        Instr::Read(..) | Instr::Delete(_) => false,
+        Instr::Add(..) | Instr::Sub(..) | Instr::AbortIf(..) => false,
     }
 }
 
@@ -214,12 +249,12 @@ fn sub_action<A: Allocator>(register: u8, x: Option<u64>, y: Option<u64>) -> Act
 
 fn read_action<A: Allocator + Clone>(
     register: u8,
-    key: Option<Key>,
+    key: Option<&[u8]>,
     found: Option<&Value<A>>,
 ) -> Result<Action<Value<A>>, NoMemory>
     ensures value { IfOk result
-        (λ a. (registers : List Cell) → effect_of a registers None ≡ reading registers register key (option_copied found.entry)) }
-    ensures memory { OnErr result (IsSome key) }
+        (λ a. (registers : List Cell) → effect_of a registers None ≡ reading registers register (option_copied key.entry) (option_copied found.entry)) }
+    ensures memory { OnErr result (IsSome (option_copied key.entry)) }
 {
     match key {
         Some(_) => Ok(Action::Load(register, copy_of(found)?, copy_of(found)?)),
@@ -228,9 +263,9 @@ fn read_action<A: Allocator + Clone>(
 }
 
 /// A write changes nothing of its machine: it ends the call, or goes on.
-fn put_action<A: Allocator>(key: Option<Key>, value: Option<&Value<A>>) -> Action<Value<A>>
+fn put_action<A: Allocator>(key: Option<&[u8]>, value: Option<&Value<A>>) -> Action<Value<A>>
     ensures { (registers : List Cell) →
-        let e = putting registers key (option_copied value.entry) in effect_of result registers e.becomes ≡ e }
+        let e = putting registers (option_copied key.entry) (option_copied value.entry) in effect_of result registers e.becomes ≡ e }
 {
     match (key, value) {
         (None, _) => Action::End(BAD_KEY),
@@ -240,12 +275,12 @@ fn put_action<A: Allocator>(key: Option<Key>, value: Option<&Value<A>>) -> Actio
 }
 
 fn insert_action<A: Allocator>(
-    key: Option<Key>,
+    key: Option<&[u8]>,
     value: Option<&Value<A>>,
     found: Option<&Value<A>>,
 ) -> Action<Value<A>>
     ensures { (registers : List Cell) →
-        let e = inserting registers key (option_copied value.entry) (option_copied found.entry) in
+        let e = inserting registers (option_copied key.entry) (option_copied value.entry) (option_copied found.entry) in
         effect_of result registers e.becomes ≡ e }
 {
     match (key, value, found) {
@@ -256,9 +291,9 @@ fn insert_action<A: Allocator>(
     }
 }
 
-fn delete_action<A: Allocator>(key: Option<Key>, found: Option<&Value<A>>) -> Action<Value<A>>
+fn delete_action<A: Allocator>(key: Option<&[u8]>, found: Option<&Value<A>>) -> Action<Value<A>>
     ensures { (registers : List Cell) →
-        let e = deleting registers key (option_copied found.entry) in
+        let e = deleting registers (option_copied key.entry) (option_copied found.entry) in
         effect_of result registers e.becomes ≡ e }
 {
     match (key, found) {
@@ -283,17 +318,17 @@ pub(crate) fn action_of<A: Allocator + Clone>(
 {
     match instruction {
         Instr::Read(register, key) => {
-            read_action(*register, key_of(value_of(key, args, registers)), found)
+            read_action(*register, key_bytes(value_of(key, args, registers)), found)
         }
         Instr::Put(key, value) => {
-            let key = key_of(value_of(key, args, registers));
+            let key = key_bytes(value_of(key, args, registers));
             Ok(put_action(key, value_of(value, args, registers)))
         }
         Instr::Insert(key, value) => {
-            let key = key_of(value_of(key, args, registers));
+            let key = key_bytes(value_of(key, args, registers));
             Ok(insert_action(key, value_of(value, args, registers), found))
         }
-        Instr::Delete(key) => Ok(delete_action(key_of(value_of(key, args, registers)), found)),
+        Instr::Delete(key) => Ok(delete_action(key_bytes(value_of(key, args, registers)), found)),
         Instr::Add(register, x, y) => {
             let x = number_of(value_of(x, args, registers));
             Ok(add_action(*register, x, number_of(value_of(y, args, registers))))

@@ -3,7 +3,8 @@
 //! Their literals are values of a type `V`: `Value<A>` in a program, and lists of bytes in the
 //! definitions of `specs/`, which so speak of no allocator.
 
-ghost use Rattle.std.specs.Prelude.{◌≡◌, ◌<◌, ◌↔◌, [], IfOk, IsSome, IsTrue, length, option_copied, slice_get};
+ghost use Rattle.std.specs.Prelude.{◌≡◌, ◌<◌, ◌↔◌, [], IfOk, IsSome, IsTrue, count_by, length, option_copied, slice_get};
+ghost use Rattle.procedure.specs.Procedures.{is_read};
 
 use crate::sequences::Sequence;
 use crate::values::Value;
@@ -52,6 +53,13 @@ pub enum Instr<V> {
     AbortIf(Test<V>, u8),
 }
 
+/// Whether an instruction may reply.
+fn is_read<A: Allocator>(instruction: &Instr<Value<A>>) -> bool
+    ensures { result ≡ is_read instruction.now }
+{
+    matches!(instruction, Instr::Read(..))
+}
+
 /// The instructions of a procedure, seen by contracts as the list of them. The catalog and the calls
 /// in their course share them, so a clone takes no memory; it is refused after 2^63 - 1 of them.
 #[derive(Debug, Drop)]
@@ -96,6 +104,13 @@ impl<A: Allocator> Code<A> {
         ensures { IsTrue result ↔ (self.now ≡ []) }
     {
         self.as_slice().is_empty()
+    }
+
+    /// How many instructions read, and so the most replies that a call may give.
+    pub fn read_count(&self) -> usize
+        ensures { result ≡ count_by is_read self.now }
+    {
+        self.as_slice().iter().filter(|read| is_read(read)).count()
     }
 
     /// The instruction at an index, if there is one.

@@ -1,6 +1,6 @@
 //! Keys, held inline.
 
-ghost use Rattle.std.specs.Prelude.{◌≡◌, ◌<◌, ◌≤◌, ◌+◌, [], ◌∷◌, ◌++◌, length, take, drop, IfSome, IsSome, ◌↔◌, Some, refl, nat_eq};
+ghost use Rattle.std.specs.Prelude.{◌≡◌, ◌<◌, ◌≤◌, ◌+◌, [], ◌∷◌, ◌++◌, length, take, drop, IfSome, IsSome, IsTrue, ◌↔◌, Some, refl, nat_eq};
 ghost use Rattle.std.specs.Ordering.{nat_cmp};
 ghost use Rattle.std.specs.Cmp.Lexicographic.{pointwise, slice_cmp, nat_list_eq_equiv, nat_list_cmp_total, texts_ties, texts_po};
 ghost use Rattle.std.specs.Cmp.{partial_equiv_from_equiv};
@@ -40,13 +40,21 @@ impl Model for Key {
 }
 
 impl Key {
+    /// Whether these are 1 to 32 bytes, as those of a key.
+    #[inline]
+    pub(crate) fn fits(bytes: &[u8]) -> bool
+        ensures { IsTrue result ↔ ((0 < length bytes.now) × (length bytes.now ≤ KEY_BYTES)) }
+    {
+        !bytes.is_empty() && bytes.len() <= KEY_BYTES
+    }
+
     /// The key of these bytes; None where they are none or more than 32.
     #[inline]
     pub fn new(bytes: &[u8]) -> Option<Key>
         ensures value { IfSome result (λ k. k ≡ bytes.now) }
         ensures fits { IsSome result ↔ ((0 < length bytes.now) × (length bytes.now ≤ KEY_BYTES)) }
     {
-        if bytes.is_empty() || bytes.len() > KEY_BYTES {
+        if !Key::fits(bytes) {
             return None;
         }
         let mut places = [0u8; KEY_BYTES];

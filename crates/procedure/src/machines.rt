@@ -1,10 +1,10 @@
 //! The machine that executes a call one instruction at a time.
 
-ghost use Rattle.std.specs.Prelude.{◌≡◌, IfOk, OnOk, OnErr, option_copied, replicate, slice_set, None};
-ghost use Rattle.procedure.specs.Needs.{CopiesValue, HasValue, accessed};
-ghost use Rattle.procedure.specs.Runs.{advanced, at_start, next_need};
+ghost use Rattle.std.specs.Prelude.{◌≡◌, IfOk, OnOk, OnErr, is_some, option_copied, replicate, slice_set, None};
+ghost use Rattle.procedure.specs.Needs.{CopiesValue, HasValue, accessed, becomes_of};
+ghost use Rattle.procedure.specs.Runs.{advanced, at_start, ended, next_need};
 
-use crate::actions::{Action, access_of, action_of, need_of};
+use crate::actions::{Action, access_of, action_of, gives_value, need_of};
 use crate::instructions::{Code, Procedure};
 use crate::limits::REGISTERS;
 use crate::memory::NoMemory;
@@ -77,7 +77,7 @@ impl<A: Allocator + Clone> Machine<A> {
     {
         let code = procedure.code.clone()?;
         let registers = absent_registers(alloc.clone()?)?;
-        let replies = Vec::with_capacity(alloc, code.len())?;
+        let replies = Vec::with_capacity(alloc, code.read_count())?;
         Ok(Machine {
             code,
             args,
@@ -151,6 +151,32 @@ impl<A: Allocator> Machine<A> {
                 access_of(instruction, args, registers)
             }
             None => Access::Ended(self.outcome),
+        }
+    }
+
+    /// Whether the next instruction gives a value to its key where that is absent. It takes no
+    /// memory, as `next` may.
+    pub fn gives_value(&self) -> bool
+        ensures { result ≡ is_some (becomes_of (next_need self.now.args self.now.progress) None) }
+    {
+        match self.code.get(self.place) {
+            Some(instruction) => {
+                let args = self.args.as_slice();
+                let registers = self.registers.as_slice();
+                gives_value(instruction, args, registers)
+            }
+            None => false,
+        }
+    }
+
+    /// The outcome, if the call has ended.
+    pub fn ended(&self) -> Option<u8>
+        ensures { result ≡ ended self.now.progress }
+    {
+        if self.place < self.code.len() {
+            None
+        } else {
+            Some(self.outcome)
         }
     }
 

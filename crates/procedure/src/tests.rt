@@ -335,10 +335,13 @@ fn machine_by_steps(rt: HostRuntime) -> Result<(), Fail> {
     let held = value(rt.alloc(), b"held")?;
     let mut machine = first_swap(rt.alloc())?;
     assert!(rt; reads(&machine, b"a")?);
+    assert_eq!(rt; (machine.gives_value(), machine.ended()), (false, None));
     machine.fed(Some(&held))?;
     assert_eq!(rt; writes(&machine, &held)?, Some(2));
+    assert_eq!(rt; (machine.gives_value(), machine.ended()), (true, None));
     machine.fed(Some(&held))?;
     assert!(rt; has_ended(&machine, 0)?);
+    assert_eq!(rt; (machine.gives_value(), machine.ended()), (false, Some(0)));
     assert_eq!(rt; machine.replies().len(), 1);
     let (args, replies) = machine.into_parts();
     assert_eq!(rt; (args.len(), replies.len()), (2, 1));

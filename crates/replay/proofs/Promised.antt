@@ -29,7 +29,7 @@ use Rattle.image.specs.declared.merges.MergeError.{MergeError}
 use Rattle.image.specs.declared.merges.MergeError.TheVariants.{TooMany, NotFull, NotPartial, Gap}
 use Rattle.image.specs.declared.limits.TheConstants.{ENTRIES, IMAGES}
 use Rattle.replay.specs.Headers.{NamesOpening}
-use Rattle.replay.specs.Promises.{FromImages, FromOpening, IsChainOf, IsHistory, IsOfKind, Recovers, data_of}
+use Rattle.replay.specs.Promises.{FromImages, FromOpening, IsChainOf, IsHistory, IsImageOf, IsOfKind, Recovers, data_of}
 use Rattle.replay.specs.Recovery.{BeginsLog, GoesOn, IsRecovery, OfLog, Recovery, chain_of, chain_or, recovery, uncovered}
 use Rattle.replay.specs.Replays.{LeavesFewAfter, LeavesFewOn, RunsAgain, calls_in, is_torn}
 use Rattle.replay.specs.declared.errors.RecoverError.{RecoverError}
@@ -234,11 +234,14 @@ module _ (c : List Procedure) (opening : Image) (opens : is_opening opening ≡ 
         ∙ sym (ap (λ j. in_full (value_at (at_cut c (table_of opening) l j) q)) zeros.number);
   }
 
+  pub opening_is_image : IsImageOf c (table_of opening) l opening
+  opening_is_image = record { cut = inl zeros.number; image = subst (λ (k : Kind). IsOfKind k c (table_of opening) l (data_of opening)) (sym zeros.kind) opening_image }
+
   opening_chain : IsChainOf c (table_of opening) l opening []
   opening_chain = record {
     chain = record { full_first = zeros.kind; partials = tt };
     few = omega arith;
-    images = (record { cut = inl zeros.number; image = subst (λ (k : Kind). IsOfKind k c (table_of opening) l (data_of opening)) (sym zeros.kind) opening_image }, tt);
+    images = (opening_is_image, tt);
   }
 
 pub from_opening : (c : List Procedure) (is : List Image) (text : Bytes) (x : Result Recovery RecoverError) → IsRecovery c is text x ⊎ (x ≡ Err refused.NoMemory) → FromOpening c is text x

@@ -71,6 +71,11 @@ pub record IsImageOf (c : List Procedure) (t : Table) (l : List Record) (i : Ima
   pub cut : HasCut l i.number
   pub image : IsOfKind i.kind c t l (data_of i)
 
+-- an opening is the image of checkpoint 0 of every log
+abbrev pub OpeningsAreImages : Type 0
+OpeningsAreImages =
+    (c : List Procedure) (opening : Image) (l : List Record) → is_opening opening ≡ true → IsLawfulImage opening → IsImageOf c (table_of opening) l opening
+
 -- at most 64 images of the log's checkpoints, each on the one before
 pub record IsChainOf (c : List Procedure) (t : Table) (l : List Record) (full : Image) (ps : List Image) : Type 0 where
   pub chain : IsChain full ps

@@ -8,3 +8,4 @@ pub mod SteppedCall
 pub mod KeptInstructions
 pub mod LockGrants
 pub mod BarredTouches
+pub mod SteppedSession

@@ -2,3 +2,4 @@
 pub mod RecordEdits
 pub mod SlotEdits
 pub mod KeyCount
+pub mod FoundSlots

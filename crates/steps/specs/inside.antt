@@ -6,3 +6,4 @@ pub mod CoreFields
 pub mod CheckpointFields
 pub mod Instructions
 pub mod RecordEdits
+pub mod Endings

@@ -13,6 +13,7 @@ ghost use Rattle.steps.specs.declared.errors.BeginError.TheVariants as refused;
 use crate::calls::OpenCall;
 use crate::cores::Core;
 use crate::errors::BeginError;
+use crate::notes::begin_notes;
 use phase::Phase;
 use procedure::limits::{SESSIONS, VALUE_BYTES};
 use procedure::{Machine, NoMemory, Procedure, Sequence, Value};
@@ -151,8 +152,9 @@ impl<A: Allocator + Clone> Core<A> {
         ensures refused { OnErr result (self.new ≡ self.old) }
         ensures refusal { Answers (begin_refusal self.old session number procedure (map (λ b. b.items) args.items)) refused.NoMemory result }
     {
-        let call = self.prepare(session, number, procedure, args)?;
+        let mut call = self.prepare(session, number, procedure, args)?;
         let index = usize::from(session);
+        begin_notes(&mut self.rooms, index, &mut call.notes);
         self.active.set(index, self.phase);
         self.calls[index] = Some(call);
         Ok(())

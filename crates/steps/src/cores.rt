@@ -10,6 +10,7 @@ ghost use Rattle.steps.specs.CoreViews.{IsSmall};
 
 use crate::calls::OpenCall;
 use crate::checkpoints::Checkpoint;
+use crate::notes::Rooms;
 use crate::reclaiming::Aside;
 use commitlog::{Log, Record};
 use image::Image;
@@ -32,6 +33,7 @@ pub struct Core<A: Allocator> {
     pub(crate) locks: LockTable<A>,
     pub(crate) changed: Changed<A>,
     pub(crate) calls: Vec<Option<OpenCall<A>>, A>,
+    pub(crate) rooms: Rooms<A>,
     pub(crate) active: Active,
     pub(crate) last: Vec<Option<u64>, A>,
     pub(crate) phase: Phase,

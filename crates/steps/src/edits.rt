@@ -3,13 +3,14 @@
 
 ghost use Rattle.std.specs.Prelude.{◌≡◌, ◌≤◌, ◌↔◌, ◌+◌, false, if◌then◌else◌, cond, IfOk, OnOk, OnErr, IsSome, IsTrue, None, Some, Err, option_copied, true, map, length, is_none, is_some, ◌||◌};
 ghost use Rattle.procedure.specs.Bytes.{Bytes, same};
-ghost use Rattle.record_store.specs.Stores.{HasKeysOnce, changed, live_at, record_at, records};
+ghost use Rattle.procedure.specs.Needs.{Touch};
+ghost use Rattle.record_store.specs.Stores.{changed, live_at, record_at, records};
 ghost use Rattle.record_store.specs.ChangedSets.{has, room};
 ghost use Rattle.record_store.specs.declared.stores.CreateError.TheVariants.{TableFull};
 ghost use Rattle.record_store.specs.declared.limits.TheConstants.{STORE_RECORDS};
-ghost use Rattle.steps.specs.Versions.{copied, is_late, kept, kept_key, live_version, slots_with, undone_key, wrote, versions_in};
+ghost use Rattle.steps.specs.Versions.{copied, found, is_late, kept, kept_key, live_version, slots_with, undone_key, wrote, versions_in};
 ghost use Rattle.steps.specs.CoreViews.{SameKeys};
-ghost use Rattle.steps.specs.inside.RecordEdits.{KeepsSlots, available_at, has_stable_at, undone_version, all_kept, all_undone, edited, first_noted, noted_of, written_versions};
+ghost use Rattle.steps.specs.inside.RecordEdits.{IsFound, IsFoundBy, KeepsSlots, available_at, has_stable_at, undone_version, all_kept, all_undone, edited, first_noted, noted_of, written_versions};
 
 use crate::notes::Note;
 use phase::Phase;
@@ -102,15 +103,17 @@ fn is_late(phase: Phase) -> bool
     matches!(phase, Phase::Capture | Phase::Complete)
 }
 
-/// A write to a key, by a call that started in `start`: its record is made where there is none. The
-/// live version before is given back.
+/// A write to a key, whose record is in `slot` if it has one, by a call that started in `start`: its record
+/// is made where there is none. The live version before is given back.
 pub(crate) fn write_key<A: Allocator + Clone>(
     store: &mut Store<A>,
     key: Key,
+    slot: Option<usize>,
     phase: Phase,
     start: Phase,
     live: Option<Value<A>>,
 ) -> Result<Option<Value<A>>, CreateError>
+    requires { IsFound store.old key slot }
     ensures before { IfOk result (λ before. before ≡ live_version (versions_in store.old key)) }
     ensures ok { OnOk result ((q : Bytes) → versions_in store.new q ≡ cond (same q key) (Some (wrote phase start (versions_in store.old key) live)) (versions_in store.old q)) }
     ensures keys { KeepsSlots store.old store.new }
@@ -119,7 +122,7 @@ pub(crate) fn write_key<A: Allocator + Clone>(
     ensures err { OnErr result (store.new ≡ store.old) }
     ensures full { (result ≡ Err TableFull) ↔ (STORE_RECORDS ≤ records store.old) × (versions_in store.old key ≡ None) }
 {
-    match store.find(&key) {
+    match slot {
         Some(slot) => match write_record(store, slot, start, live) {
             Ok(before) => Ok(before),
             Err(NoMemory) => Err(CreateError::NoMemory),
@@ -137,11 +140,11 @@ pub(crate) fn write_key<A: Allocator + Clone>(
     }
 }
 
-/// What a key holds.
-pub(crate) fn found<'a, A: Allocator>(store: &'a Store<A>, key: &Key) -> Option<&'a Value<A>>
-    ensures { option_copied result ≡ live_version (versions_in store.now key.now) }
+/// What a touched key holds, whose record is in `slot` if it has one.
+pub(crate) fn held<A: Allocator>(store: &Store<A>, slot: Option<usize>) -> Option<&Value<A>>
+    ensures { (touch : Touch) → IsFoundBy store.now touch slot → option_copied result ≡ found (versions_in store.now) touch }
 {
-    match store.find(key) {
+    match slot {
         Some(slot) => live(store, slot),
         None => None,
     }
@@ -156,16 +159,6 @@ pub(crate) fn copy_of<A: Allocator + Clone>(
     match held {
         Some(value) => Ok(Some(value.clone()?)),
         None => Ok(None),
-    }
-}
-
-/// Whether a key has a record.
-pub(crate) fn has_record<A: Allocator>(store: &Store<A>, key: &Key) -> bool
-    ensures { result ≡ is_some (versions_in store.now key.now) }
-{
-    match store.find(key) {
-        Some(_) => true,
-        None => false,
     }
 }
 
@@ -193,11 +186,11 @@ fn undo_note<A: Allocator>(store: &mut Store<A>, note: Note<A>)
 }
 
 /// All writes of a call are undone, the last one first.
-pub(crate) fn undo_all<A: Allocator>(store: &mut Store<A>, mut notes: Vec<Note<A>, A>)
+pub(crate) fn undo_all<A: Allocator>(store: &mut Store<A>, notes: &mut Vec<Note<A>, A>)
     ensures keys { KeepsSlots store.old store.new }
     ensures slots { length store.new ≡ length store.old }
     ensures same { SameKeys store.old store.new }
-    ensures versions { (q : Bytes) → versions_in store.new q ≡ all_undone (map noted_of notes.items) (versions_in store.old) q }
+    ensures versions { (q : Bytes) → versions_in store.new q ≡ all_undone (map noted_of notes.old.items) (versions_in store.old) q }
 {
     while let Some(note) = notes.pop() {
         undo_note(store, note);
@@ -240,6 +233,11 @@ pub(crate) fn keep_all<A: Allocator>(
     ensures same { SameKeys store.old store.new }
     ensures versions { (q : Bytes) → versions_in store.new q ≡ all_kept start phase (map noted_of notes.now) (versions_in store.old) q }
 {
+    match start {
+        Phase::Prepare => {}
+        // Only the records of a call that began in prepare change at its commit.
+        _ => return,
+    }
     for note in notes {
         keep_key(store, &note.key, start, phase);
     }

@@ -10,32 +10,22 @@ ghost use Rattle.record_store.specs.Stores.{records};
 ghost use Rattle.record_store.specs.declared.limits.TheConstants as stored;
 ghost use Rattle.steps.specs.inside.RecordEdits.{KeepsSlots, all_kept, all_undone, first_noted, noted_of};
 ghost use Rattle.steps.specs.Versions.{versions_in};
-ghost use Rattle.steps.specs.inside.CoreFields.{notes_at};
-ghost use Rattle.steps.specs.CoreViews.{Finishes, AnswersCall, OfOpen, SameKeys, front_of, open_at};
+ghost use Rattle.steps.specs.inside.Endings.{unanswered};
+ghost use Rattle.steps.specs.CoreViews.{Finishes, AnswersCall, OfOpen, SameKeys, open_at};
 ghost use Rattle.steps.specs.Refusals.{Answers, finish_refusal};
 ghost use Rattle.steps.specs.declared.errors.FinishError.TheVariants as refused;
 
-use crate::calls::{OpenCall, call_of, outcome_of, taken};
+use crate::calls::{OpenCall, call_of, taken};
 use crate::cores::Core;
 use crate::edits::{collect, copy_of, keep_all, undo_all};
 use crate::errors::FinishError;
-use crate::notes::Note;
+use crate::notes::{Note, keep_room};
 use commitlog::{Log, Record};
 use phase::Phase;
 use procedure::outcomes::COMMITTED;
 use procedure::{Call, NoMemory, Sequence, Value};
 use record_store::{Changed, Store};
 use std::alloc::Allocator;
-
-/// How many writes of a session's call are noted.
-fn count_notes<A: Allocator>(calls: &[Option<OpenCall<A>>], session: usize) -> usize
-    ensures { result ≡ length (notes_at calls.now session) }
-{
-    match call_of(calls, session) {
-        Some(call) => call.notes.len(),
-        None => 0,
-    }
-}
 
 /// Room for one record more in the log, and for `more` further keys among the collected ones.
 fn make_room<A: Allocator>(
@@ -87,14 +77,14 @@ fn append<A: Allocator>(log: &mut Log<A>, added: Record<A>)
 fn settle<A: Allocator>(
     store: &mut Store<A>,
     changed: &mut Changed<A>,
-    notes: Vec<Note<A>, A>,
+    notes: &mut Vec<Note<A>, A>,
     outcome: u8,
     start: Phase,
     phase: Phase,
 )
-    requires { length notes.items ≤ room changed.old }
-    ensures versions { (q : Bytes) → versions_in store.new q ≡ (if outcome == COMMITTED then all_kept start phase (map noted_of notes.items) (versions_in store.old) q else all_undone (map noted_of notes.items) (versions_in store.old) q) }
-    ensures collecting { (q : Bytes) → has changed.new.collecting q ≡ (if outcome == COMMITTED then (is_some (first_noted (map noted_of notes.items) q) || has changed.old.collecting q) else has changed.old.collecting q) }
+    requires { length notes.old.items ≤ room changed.old }
+    ensures versions { (q : Bytes) → versions_in store.new q ≡ (if outcome == COMMITTED then all_kept start phase (map noted_of notes.old.items) (versions_in store.old) q else all_undone (map noted_of notes.old.items) (versions_in store.old) q) }
+    ensures collecting { (q : Bytes) → has changed.new.collecting q ≡ (if outcome == COMMITTED then (is_some (first_noted (map noted_of notes.old.items) q) || has changed.old.collecting q) else has changed.old.collecting q) }
     ensures frozen { changed.new.frozen ≡ changed.old.frozen }
     ensures keys { KeepsSlots store.old store.new }
     ensures slots { length store.new ≡ length store.old }
@@ -112,7 +102,7 @@ fn settle<A: Allocator>(
     }
 }
 
-/// A call that ended goes into the log, and its writes are settled.
+/// A call that ended goes into the log, and its writes are settled. The room of its notes is given back.
 fn end_call<A: Allocator>(
     store: &mut Store<A>,
     changed: &mut Changed<A>,
@@ -121,7 +111,7 @@ fn end_call<A: Allocator>(
     call: OpenCall<A>,
     outcome: u8,
     phase: Phase,
-)
+) -> Vec<Note<A>, A>
     requires range { IsInRange (Answered session call.number call.procedure call.machine.args outcome call.machine.progress.replies) }
     requires notes { length call.notes.items ≤ room changed.old }
     requires not_full { length log.old.records ≢ LOG_RECORDS }
@@ -141,7 +131,7 @@ fn end_call<A: Allocator>(
         start,
         executed: _,
         machine,
-        notes,
+        mut notes,
     } = call;
     let (args, replies) = machine.into_parts();
     let ended = Call {
@@ -150,8 +140,9 @@ fn end_call<A: Allocator>(
         procedure,
         args,
     };
-    settle(store, changed, notes, outcome, start, phase);
+    settle(store, changed, &mut notes, outcome, start, phase);
     append(log, record_of(ended, outcome, replies));
+    notes
 }
 
 fn copy_of_replies<A: Allocator + Clone>(
@@ -167,6 +158,43 @@ fn copy_of_replies<A: Allocator + Clone>(
     Ok(copy)
 }
 
+/// How a call ends.
+#[derive(Drop)]
+struct Ending<A: Allocator> {
+    outcome: u8,
+    /// A copy of its replies.
+    replies: Vec<Option<Value<A>>, A>,
+    /// How many writes are noted.
+    writes: usize,
+}
+
+/// How an open call ends, where it may be answered: a full log takes no record.
+fn ending_of<A: Allocator + Clone>(
+    alloc: &A,
+    call: &OpenCall<A>,
+    full: bool,
+) -> Result<Ending<A>, FinishError>
+    ensures refusal { Answers (unanswered call.now.machine.progress full) refused.NoMemory result }
+    ensures outcome { IfOk result (λ e. e.outcome ≡ call.now.machine.progress.outcome) }
+    ensures replies { IfOk result (λ e. e.replies.items ≡ call.now.machine.progress.replies) }
+    ensures writes { IfOk result (λ e. e.writes ≡ length call.now.notes.items) }
+{
+    let Some(outcome) = call.machine.ended() else {
+        return Err(FinishError::NotReady);
+    };
+    if full {
+        return Err(FinishError::LogFull);
+    }
+    match copy_of_replies(alloc, call.machine.replies()) {
+        Ok(replies) => Ok(Ending {
+            outcome,
+            replies,
+            writes: call.notes.len(),
+        }),
+        Err(NoMemory) => Err(FinishError::NoMemory),
+    }
+}
+
 /// What a finished call is answered.
 #[derive(Debug, Drop)]
 pub struct Answer<A: Allocator> {
@@ -177,25 +205,6 @@ pub struct Answer<A: Allocator> {
 }
 
 impl<A: Allocator + Clone> Core<A> {
-    /// The outcome and a copy of the replies, where the call may be answered.
-    fn prepare_finish(&self, session: u16) -> Result<(u8, Vec<Option<Value<A>>, A>), FinishError>
-        ensures refusal { Answers (finish_refusal self.now session) refused.NoMemory result }
-        ensures outcome { IfOk result (λ r. OfOpen self.now session (λ c. r.0 ≡ (front_of self.now c).outcome)) }
-        ensures replies { IfOk result (λ r. OfOpen self.now session (λ c. r.1.items ≡ (front_of self.now c).replies)) }
-    {
-        match call_of(self.calls.as_slice(), usize::from(session)) {
-            Some(call) => match outcome_of(&call.machine) {
-                Some(_) if self.log.is_full() => Err(FinishError::LogFull),
-                Some(outcome) => match copy_of_replies(&self.alloc, call.machine.replies()) {
-                    Ok(replies) => Ok((outcome, replies)),
-                    Err(NoMemory) => Err(FinishError::NoMemory),
-                },
-                None => Err(FinishError::NotReady),
-            },
-            None => Err(FinishError::NotActive),
-        }
-    }
-
     /// A session's call is answered: it stands in the log from then on, with its outcome and replies.
     /// Where it commits its writes are kept, and else they are undone; its locks go. With a refusal the
     /// call is as before, and may be finished later.
@@ -205,11 +214,17 @@ impl<A: Allocator + Clone> Core<A> {
         ensures refused { OnErr result (self.new ≡ self.old) }
         ensures refusal { Answers (finish_refusal self.old session) refused.NoMemory result }
     {
-        let (outcome, replies) = self.prepare_finish(session)?;
         let index = usize::from(session);
+        let Some(call) = call_of(self.calls.as_slice(), index) else {
+            return Err(FinishError::NotActive);
+        };
+        let Ending {
+            outcome,
+            replies,
+            writes,
+        } = ending_of(&self.alloc, call, self.log.is_full())?;
         let phase = self.phase;
-        let more = count_notes(self.calls.as_slice(), index);
-        match make_room(&mut self.changed, &mut self.log, more) {
+        match make_room(&mut self.changed, &mut self.log, writes) {
             Ok(()) => {}
             Err(NoMemory) => return Err(FinishError::NoMemory),
         }
@@ -217,7 +232,7 @@ impl<A: Allocator + Clone> Core<A> {
         match taken(&mut self.calls, index) {
             Some(call) => {
                 let number = call.number;
-                end_call(
+                let notes = end_call(
                     &mut self.store,
                     &mut self.changed,
                     &mut self.log,
@@ -226,6 +241,7 @@ impl<A: Allocator + Clone> Core<A> {
                     outcome,
                     phase,
                 );
+                keep_room(&mut self.rooms, index, notes);
                 self.locks.release_all(index);
                 self.aside = self.aside.after_release();
                 self.active.clear(index);

@@ -7,6 +7,7 @@ use crate::calls::taken;
 use crate::cores::Core;
 use crate::edits::undo_all;
 use crate::errors::NotActive;
+use crate::notes::keep_room;
 use std::alloc::Allocator;
 
 impl<A: Allocator> Core<A> {
@@ -19,8 +20,9 @@ impl<A: Allocator> Core<A> {
     {
         let index = usize::from(session);
         match taken(&mut self.calls, index) {
-            Some(call) => {
-                undo_all(&mut self.store, call.notes);
+            Some(mut call) => {
+                undo_all(&mut self.store, &mut call.notes);
+                keep_room(&mut self.rooms, index, call.notes);
                 self.locks.release_all(index);
                 self.aside = self.aside.after_release();
                 self.active.clear(index);

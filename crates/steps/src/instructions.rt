@@ -6,13 +6,13 @@ ghost use Rattle.procedure.specs.Needs.{CopiesValue, accessed};
 ghost use Rattle.procedure.specs.Runs.{advanced, next_need};
 ghost use Rattle.procedure.specs.declared.needs.Access.TheVariants as access;
 ghost use Rattle.procedure.specs.declared.limits.TheConstants.{INSTRUCTIONS};
-ghost use Rattle.steps.specs.inside.Instructions.{Advances, ExecutesOne, SameOpen, Wrote, fed_with, touch_by};
-ghost use Rattle.steps.specs.Versions.{live_version, wrote, versions_in};
+ghost use Rattle.steps.specs.inside.Instructions.{Advances, ExecutesOne, SameOpen, Wrote, fed_with, seen_in, touch_by, touch_in};
+ghost use Rattle.steps.specs.Versions.{live_version, wrote};
 ghost use Rattle.steps.specs.machine.Machine.{note};
-ghost use Rattle.steps.specs.inside.RecordEdits.{first_noted, noted_of};
+ghost use Rattle.steps.specs.inside.RecordEdits.{IsFound, IsFoundBy, first_noted, noted_of};
 
 use crate::calls::OpenCall;
-use crate::edits::{found, write_key};
+use crate::edits::{held, write_key};
 use crate::notes::Note;
 use phase::Phase;
 use procedure::{Access, Key, Machine, Need, NoMemory, Value};
@@ -30,15 +30,18 @@ fn feed<A: Allocator + Clone>(machine: &mut Machine<A>, found: Option<&Value<A>>
     }
 }
 
-/// A key's live version becomes this, and what it replaced is noted. All memory is taken first.
+/// The live version of a key, whose record is in `slot` if it has one, becomes this, and what it replaced
+/// is noted. All memory is taken first.
 fn write_live<A: Allocator + Clone>(
     store: &mut Store<A>,
     call: &mut OpenCall<A>,
     key: Key,
+    slot: Option<usize>,
     phase: Phase,
     live: Option<Value<A>>,
 ) -> Result<(), CreateError>
-    requires { CopiesValue (next_need call.old.machine.args call.old.machine.progress) → ⊥ }
+    requires found { IsFound store.old key slot }
+    requires copies { CopiesValue (next_need call.old.machine.args call.old.machine.progress) → ⊥ }
     ensures ok { OnOk result (Wrote phase key live store.old call.old store.new call.new) }
     ensures err { OnErr result ((store.new ≡ store.old) × SameOpen call.old call.new) }
 {
@@ -46,7 +49,7 @@ fn write_live<A: Allocator + Clone>(
         Ok(()) => {}
         Err(_) => return Err(CreateError::NoMemory),
     }
-    match write_key(store, key, phase, call.start, live) {
+    match write_key(store, key, slot, phase, call.start, live) {
         Ok(before) => {
             feed(&mut call.machine, before.as_ref());
             call.notes.push_reserved(Note { key, before });
@@ -56,24 +59,26 @@ fn write_live<A: Allocator + Clone>(
     }
 }
 
-/// Carries out an instruction that writes a key. It may find the key as it must not, and then ends the
-/// call and changes nothing.
+/// Carries out an instruction that writes a key, whose record is in `slot` if it has one. It may find the
+/// key as it must not, and then ends the call and changes nothing.
 fn write<A: Allocator + Clone>(
     store: &mut Store<A>,
     call: &mut OpenCall<A>,
     key: Key,
+    slot: Option<usize>,
     phase: Phase,
 ) -> Result<(), CreateError>
-    requires { accessed (next_need call.old.machine.args call.old.machine.progress) ≡ access.Writes key }
+    requires found { IsFound store.old key slot }
+    requires access { accessed (next_need call.old.machine.args call.old.machine.progress) ≡ access.Writes key }
     ensures ok { OnOk result (ExecutesOne phase store.old call.old store.new call.new) }
     ensures executed { call.new.executed ≡ call.old.executed }
     ensures err { OnErr result ((store.new ≡ store.old) × SameOpen call.old call.new) }
 {
     match call.machine.next() {
-        Ok(Need::Write(_, update)) => match update.becomes(found(store, &key)) {
-            Some(live) => write_live(store, call, key, phase, live),
+        Ok(Need::Write(_, update)) => match update.becomes(held(store, slot)) {
+            Some(live) => write_live(store, call, key, slot, phase, live),
             None => {
-                feed(&mut call.machine, found(store, &key));
+                feed(&mut call.machine, held(store, slot));
                 Ok(())
             }
         },
@@ -82,43 +87,38 @@ fn write<A: Allocator + Clone>(
     }
 }
 
-/// What the key holds that an instruction touches.
-fn seen<A: Allocator>(store: &Store<A>, access: Access) -> Option<&Value<A>>
-    ensures { option_copied result ≡ Rattle.steps.specs.Versions.found (versions_in store.now) (touch_by access) }
-{
-    match access {
-        Access::Reads(key) | Access::Writes(key) => found(store, &key),
-        Access::Nothing | Access::Ended(_) => None,
-    }
-}
-
-/// Carries out an instruction that writes no key.
+/// Carries out an instruction that writes no key. Where it touches one that has a record, that is in
+/// `slot`.
 fn read<A: Allocator + Clone>(
     store: &Store<A>,
     machine: &mut Machine<A>,
-    access: Access,
+    slot: Option<usize>,
 ) -> Result<(), NoMemory>
-    ensures ok { OnOk result (machine.new ≡ fed_with (Rattle.steps.specs.Versions.found (versions_in store.now) (touch_by access)) machine.old) }
+    requires { IsFoundBy store.now (touch_in machine.old) slot }
+    ensures ok { OnOk result (machine.new ≡ fed_with (seen_in store.now machine.old) machine.old) }
     ensures err { OnErr result (machine.new ≡ machine.old) }
 {
-    machine.fed(seen(store, access))
+    machine.fed(held(store, slot))
 }
 
-/// Executes the next instruction of a call, whose lock is held.
+/// Executes the next instruction of a call, whose lock is held. Where it touches a key that has a record,
+/// that is in `slot`.
 pub(crate) fn run<A: Allocator + Clone>(
     store: &mut Store<A>,
     call: &mut OpenCall<A>,
-    access: Access,
+    access: &Access,
+    slot: Option<usize>,
     phase: Phase,
 ) -> Result<(), CreateError>
-    requires access { access ≡ accessed (next_need call.old.machine.args call.old.machine.progress) }
+    requires found { IsFoundBy store.old (touch_by access.now) slot }
+    requires access { access.now ≡ accessed (next_need call.old.machine.args call.old.machine.progress) }
     requires few { call.old.executed < INSTRUCTIONS }
     ensures ok { OnOk result (Advances phase store.old call.old store.new call.new) }
     ensures err { OnErr result ((store.new ≡ store.old) × SameOpen call.old call.new) }
 {
     match access {
-        Access::Writes(key) => write(store, call, key, phase)?,
-        _ => match read(store, &mut call.machine, access) {
+        Access::Writes(key) => write(store, call, *key, slot, phase)?,
+        _ => match read(store, &mut call.machine, slot) {
             Ok(()) => {}
             Err(NoMemory) => return Err(CreateError::NoMemory),
         },

@@ -18,6 +18,7 @@ use crate::checkpoints::Checkpoint;
 use crate::cores::Core;
 use crate::edits::write_key;
 use crate::errors::OpenError;
+use crate::notes::Rooms;
 use crate::reclaiming::Aside;
 use commitlog::Log;
 use image::{Entry, Image};
@@ -35,7 +36,8 @@ fn fill_entry<A: Allocator + Clone>(store: &mut Store<A>, entry: &Entry<A>) -> R
     ensures records { OnOk result (records store.new ≡ (if is_none (versions_in store.old entry.now.0) then records store.old + 1 else records store.old)) }
 {
     let cell = entry.cell.clone()?;
-    match write_key(store, entry.key, Phase::Rest, Phase::Rest, cell) {
+    let slot = store.find(&entry.key);
+    match write_key(store, entry.key, slot, Phase::Rest, Phase::Rest, cell) {
         Ok(_) => Ok(()),
         // There is a place for a record of each entry of an image.
         Err(_) => Err(NoMemory),
@@ -59,6 +61,7 @@ struct Parts<A: Allocator> {
     store: Store<A>,
     locks: LockTable<A>,
     calls: Calls<A>,
+    rooms: Rooms<A>,
     last: Numbers<A>,
 }
 
@@ -103,10 +106,12 @@ fn parts_of<A: Allocator + Copy>(alloc: A, entries: &[Entry<A>]) -> Result<Parts
     let store = filled(alloc, entries)?;
     let locks = LockTable::new(alloc)?;
     let (calls, last) = free_sessions(alloc)?;
+    let rooms = none_for_each(alloc)?;
     Ok(Parts {
         store,
         locks,
         calls,
+        rooms,
         last,
     })
 }
@@ -134,6 +139,7 @@ fn core_of<A: Allocator + Copy>(
         store,
         locks,
         calls,
+        rooms,
         last,
     } = parts;
     // Brings in that the store has at most 100,000 records, and so the table as many keys.
@@ -147,6 +153,7 @@ fn core_of<A: Allocator + Copy>(
         locks,
         changed: Changed::new(alloc),
         calls,
+        rooms,
         active: Active::new(),
         last,
         phase: Phase::Rest,

@@ -1,26 +1,27 @@
 //! How a call goes on.
 
-ghost use Rattle.std.specs.Prelude.{◌≡◌, ◌<◌, Err, IfOk, None, OnErr, OnOk, false, if◌then◌else◌, is_some, length};
-ghost use Rattle.procedure.specs.Needs.{accessed, becomes_of};
+ghost use Rattle.std.specs.Prelude.{◌≡◌, ◌<◌, Err, IfOk, IfSome, None, OnErr, OnOk, false, if◌then◌else◌, length, slice_index_or, slice_set};
+ghost use Rattle.procedure.specs.Needs.{accessed};
 ghost use Rattle.procedure.specs.Runs.{ended, is_nil, next_need};
 ghost use Rattle.procedure.specs.declared.limits.TheConstants.{INSTRUCTIONS, SESSIONS};
+ghost use Rattle.record_store.specs.Stores.{Slots};
+ghost use Rattle.steps.specs.inside.RecordEdits.{IsFoundBy};
 ghost use Rattle.steps.specs.inside.Instructions.{Advances, SameOpen, becomes_in, lacks_place, touch_by, touch_in};
 ghost use Rattle.steps.specs.CoreViews.{OfOpen, Steps, front_of, one_more, stepped_as};
 ghost use Rattle.steps.specs.Versions.{makes_record, versions_in};
-ghost use Rattle.steps.specs.inside.InstructionLocks.{AnswersTo, IsExcluded, SameLocks, mode_of_touch, held_so, locked, short};
+ghost use Rattle.steps.specs.inside.InstructionLocks.{AnswersTo, IsExcluded, SameLocks, StepsIn, mode_of_touch, held_so, locked, short};
 ghost use Rattle.locktable.specs.Modes.{IsAtMost};
 ghost use Rattle.steps.specs.Refusals.{Answers, step_refusal};
 ghost use Rattle.steps.specs.declared.errors.StepError.TheVariants as refused;
 
-use crate::calls::{OpenCall, outcome_of, taken};
+use crate::calls::OpenCall;
 use crate::cores::Core;
-use crate::edits::has_record;
 use crate::errors::StepError;
 use crate::instructions::run;
 use crate::locking::{lock, unlock};
 use locktable::{LockError, LockTable, Mode};
 use phase::Phase;
-use procedure::{Access, Machine, Need, NoMemory, Update};
+use procedure::{Access, Machine};
 use record_store::Store;
 use record_store::limits::STORE_RECORDS;
 use std::alloc::Allocator;
@@ -34,43 +35,30 @@ pub enum Stepped {
     Ready,
 }
 
-/// Whether the next instruction gives a value to a key that is absent.
-fn gives_value<A: Allocator + Clone>(machine: &Machine<A>) -> bool
-    ensures { result ≡ is_some (becomes_of (next_need machine.now.args machine.now.progress) None) }
+/// Whether the next instruction must make a record of its key, whose record is in `slot` if it has one.
+fn makes_record<A: Allocator>(machine: &Machine<A>, slot: Option<usize>) -> bool
+    ensures { (slots : Slots) → IsFoundBy slots (touch_in machine.now) slot →
+        result ≡ makes_record (versions_in slots) (touch_in machine.now) (becomes_in slots machine.now) }
 {
-    match machine.next() {
-        Ok(Need::Write(_, Update::Put(_) | Update::Insert(_))) => true,
-        Ok(_) => false,
-        // Only a value takes memory.
-        Err(NoMemory) => true,
-    }
-}
-
-/// Whether the next instruction must make a record of its key.
-fn makes_record<A: Allocator + Clone>(
-    store: &Store<A>,
-    machine: &Machine<A>,
-    access: &Access,
-) -> bool
-    requires { access.now ≡ accessed (next_need machine.now.args machine.now.progress) }
-    ensures { result ≡ makes_record (versions_in store.now) (touch_in machine.now) (becomes_in store.now machine.now) }
-{
-    match access {
-        Access::Writes(key) => !has_record(store, key) && gives_value(machine),
-        _ => false,
-    }
+    slot.is_none() && machine.gives_value()
 }
 
 /// Whether the next instruction must make a record that has no place.
-fn lacks_place<A: Allocator + Clone>(
-    store: &Store<A>,
-    machine: &Machine<A>,
-    access: &Access,
-) -> bool
-    requires { access.now ≡ accessed (next_need machine.now.args machine.now.progress) }
+fn lacks_place<A: Allocator>(store: &Store<A>, machine: &Machine<A>, slot: Option<usize>) -> bool
+    requires { IsFoundBy store.now (touch_in machine.now) slot }
     ensures { result ≡ lacks_place store.now machine.now }
 {
-    store.len() >= STORE_RECORDS && makes_record(store, machine, access)
+    store.len() >= STORE_RECORDS && makes_record(machine, slot)
+}
+
+/// The slot of the record whose key an instruction touches, if there is one.
+fn slot_of<A: Allocator>(store: &Store<A>, access: &Access) -> Option<usize>
+    ensures { IsFoundBy store.now (touch_by access.now) result }
+{
+    match access {
+        Access::Reads(key) | Access::Writes(key) => store.find(key),
+        Access::Nothing | Access::Ended(_) => None,
+    }
 }
 
 /// The refusal of a write for which the memory or the place is wanting.
@@ -90,19 +78,20 @@ fn run_where<A: Allocator + Clone>(
     call: &mut OpenCall<A>,
     access: &Access,
     phase: Phase,
-    full: bool,
 ) -> Result<(), StepError>
     requires access { access.now ≡ accessed (next_need call.old.machine.args call.old.machine.progress) }
     requires few { call.old.executed < INSTRUCTIONS }
     ensures ok { OnOk result (Advances phase store.old call.old store.new call.new) }
-    ensures place { OnOk result (full ≡ false) }
+    ensures place { OnOk result (lacks_place store.old call.old.machine ≡ false) }
     ensures err { OnErr result ((store.new ≡ store.old) × SameOpen call.old call.new) }
-    ensures refusal { OnErr result (result ≡ Err (short full)) }
+    ensures refusal { OnErr result (result ≡ Err (short (lacks_place store.old call.old.machine))) }
 {
+    let slot = slot_of(store, access);
+    let full = lacks_place(store, &call.machine, slot);
     if full {
         return Err(short(full));
     }
-    match run(store, call, *access, phase) {
+    match run(store, call, access, slot, phase) {
         Ok(()) => Ok(()),
         Err(_) => Err(short(full)),
     }
@@ -117,7 +106,6 @@ fn run_granted<A: Allocator + Clone>(
     call: &mut OpenCall<A>,
     access: &Access,
     phase: Phase,
-    full: bool,
     before: Option<Mode>,
 ) -> Result<(), StepError>
     requires session { session < SESSIONS }
@@ -126,12 +114,12 @@ fn run_granted<A: Allocator + Clone>(
     requires weaker { IsAtMost before (mode_of_touch locks.old session (touch_by access.now)) }
     ensures ok { OnOk result (Advances phase store.old call.old store.new call.new) }
     ensures granted { OnOk result (locks.new ≡ locks.old) }
-    ensures place { OnOk result (full ≡ false) }
+    ensures place { OnOk result (lacks_place store.old call.old.machine ≡ false) }
     ensures err { OnErr result ((store.new ≡ store.old) × SameOpen call.old call.new) }
     ensures unlocked { OnErr result (locks.new ≡ held_so locks.old session (touch_by access.now) before) }
-    ensures refusal { OnErr result (result ≡ Err (short full)) }
+    ensures refusal { OnErr result (result ≡ Err (short (lacks_place store.old call.old.machine))) }
 {
-    match run_where(store, call, access, phase, full) {
+    match run_where(store, call, access, phase) {
         Ok(()) => Ok(()),
         Err(refused) => {
             unlock(locks, session, access, before);
@@ -160,11 +148,13 @@ fn run_locked<A: Allocator + Clone>(
     ensures unlocked { OnErr result (SameLocks locks.old locks.new × (length locks.new ≡ SESSIONS)) }
     ensures refusal { AnswersTo false (IsExcluded locks.old session (touch_by access.now)) (lacks_place store.old call.old.machine) result }
 {
-    let full = lacks_place(store, &call.machine, access);
     match lock(locks, session, access) {
-        Ok(before) => run_granted(store, locks, session, call, access, phase, full, before),
+        Ok(before) => run_granted(store, locks, session, call, access, phase, before),
         Err(LockError::Conflict) => Err(StepError::Conflict),
-        Err(LockError::NoMemory) => Err(short(full)),
+        Err(LockError::NoMemory) => {
+            let slot = slot_of(store, access);
+            Err(short(lacks_place(store, &call.machine, slot)))
+        }
     }
 }
 
@@ -172,7 +162,7 @@ fn run_locked<A: Allocator + Clone>(
 fn readiness<A: Allocator>(machine: &Machine<A>) -> Stepped
     ensures { result ≡ (if is_nil machine.now.progress.rest then Stepped.Ready else Stepped.Ran) }
 {
-    match outcome_of(machine) {
+    match machine.ended() {
         Some(_) => Stepped::Ready,
         None => Stepped::Ran,
     }
@@ -196,12 +186,51 @@ fn execute_next<A: Allocator + Clone>(
     ensures unlocked { OnErr result (SameLocks locks.old locks.new × (length locks.new ≡ SESSIONS)) }
     ensures refusal { AnswersTo (is_nil call.old.machine.progress.rest) (IsExcluded locks.old session (touch_in call.old.machine)) (lacks_place store.old call.old.machine) result }
 {
-    if outcome_of(&call.machine).is_some() {
+    if call.machine.ended().is_some() {
         return Err(StepError::AlreadyReady);
     }
     let access = call.machine.access();
     run_locked(store, locks, session, call, &access, phase)?;
     Ok(readiness(&call.machine))
+}
+
+/// Executes the next instruction of the call in a place, if there is one.
+fn step_open<A: Allocator + Clone>(
+    store: &mut Store<A>,
+    locks: &mut LockTable<A>,
+    session: usize,
+    place: &mut Option<OpenCall<A>>,
+    phase: Phase,
+) -> Result<Stepped, StepError>
+    requires session { session < SESSIONS }
+    requires sessions { length locks.old ≡ SESSIONS }
+    requires few { IfSome place.old (λ c. ended c.machine.progress ≡ None → c.executed < INSTRUCTIONS) }
+    ensures { StepsIn phase session store.old locks.old place.old store.new locks.new place.new result }
+{
+    match place {
+        Some(call) => execute_next(store, locks, session, call, phase),
+        None => Err(StepError::NotActive),
+    }
+}
+
+/// Executes the next instruction of a session's call, which stays in its place.
+fn step_session<A: Allocator + Clone>(
+    store: &mut Store<A>,
+    locks: &mut LockTable<A>,
+    calls: &mut Vec<Option<OpenCall<A>>, A>,
+    session: usize,
+    phase: Phase,
+) -> Result<Stepped, StepError>
+    requires calls { length calls.old.items ≡ SESSIONS }
+    requires sessions { length locks.old ≡ SESSIONS }
+    requires few { IfSome (slice_index_or calls.old.items session None) (λ c. ended c.machine.progress ≡ None → c.executed < INSTRUCTIONS) }
+    ensures here { StepsIn phase session store.old locks.old (slice_index_or calls.old.items session None) store.new locks.new (slice_index_or calls.new.items session None) result }
+    ensures others { calls.new.items ≡ slice_set calls.old.items session (slice_index_or calls.new.items session None) }
+{
+    match calls.get_mut(session) {
+        Some(place) => step_open(store, locks, session, place, phase),
+        None => Err(StepError::NotActive),
+    }
 }
 
 impl<A: Allocator + Clone> Core<A> {
@@ -213,21 +242,12 @@ impl<A: Allocator + Clone> Core<A> {
         ensures refused { OnErr result (self.new ≡ self.old) }
         ensures refusal { Answers (step_refusal self.old session) refused.NoMemory result }
     {
-        let index = usize::from(session);
-        let phase = self.phase;
-        match taken(&mut self.calls, index) {
-            Some(mut call) => {
-                let answer = execute_next(
-                    &mut self.store,
-                    &mut self.locks,
-                    index,
-                    &mut call,
-                    phase,
-                );
-                self.calls[index] = Some(call);
-                answer
-            }
-            None => Err(StepError::NotActive),
-        }
+        step_session(
+            &mut self.store,
+            &mut self.locks,
+            &mut self.calls,
+            usize::from(session),
+            self.phase,
+        )
     }
 }

@@ -15,7 +15,7 @@ use Rattle.image.specs.declared.images.Kind.TheVariants.{Full, Partial}
 use Rattle.steps.specs.CoreViews.{CoreView}
 use Rattle.steps.specs.CutImages.{AllTaken, IsOfKind, plain}
 use Rattle.workers.specs.Claims.{is_call}
-use Rattle.workers.specs.Checkpointed.{AreCuts, ImagesStay, call_count}
+use Rattle.workers.specs.Checkpointed.{AreCuts, ImagesStay, KeepsOrigin, call_count}
 
 of_kind-stays : (c : List Procedure) (t : Table) (l m : List Record) (i : Image) → KeepsImages → IsCyclic l → HasCut l i.number → (k : Kind) → IsOfKind k c t l (plain i) → IsOfKind k c t (l ++ m) (plain i)
 of_kind-stays c t l m i keeps cyclic cut Full is = (keeps c t l m (plain i) cyclic cut).full is
@@ -65,3 +65,9 @@ cuts_keep old new is k cuts =
 
 pub count_keeps : (old new : CoreView) → Keeps old new → call_count new.log ≡ call_count old.log
 count_keeps old new k = ap call_count k.log
+
+pub origin_grows : (old new : CoreView) (n : ℕ) → Grows old new n → KeepsOrigin old new
+origin_grows old new n g = (g.catalog, g.opening)
+
+pub origin_keeps : (old new : CoreView) → Keeps old new → KeepsOrigin old new
+origin_keeps old new k = (k.catalog, k.opening)

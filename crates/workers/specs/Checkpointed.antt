@@ -26,6 +26,14 @@ pub record Checkpointed : Type 0 where
 abbrev pub AreCuts : CoreView → List Image → Type 0
 AreCuts core images = AllTaken core.catalog (table_of core.opening) core.log images
 
+-- a core of these procedures, with this opening
+abbrev pub IsFrom : List Procedure → Image → CoreView → Type 0
+IsFrom catalog opening core = (core.catalog ≡ catalog) × (core.opening ≡ opening)
+
+-- a core keeps the procedures and the opening that it was opened with
+abbrev pub KeepsOrigin : (old new : CoreView) → Type 0
+KeepsOrigin old new = IsFrom old.catalog old.opening new
+
 -- the image that waits, if one does, goes to the end of the list
 pub record IsTakenInto (old new : Checkpointed) (was_waiting : Bool) : Type 0 where
   pub core : new.core ≡ taken old.core

@@ -6,7 +6,7 @@ ghost use Rattle.steps.specs.Schedules.{AdvancesAs, BeginsAs, FinishesAs, GivesU
 ghost use Rattle.workers.specs.Streams.{SendsAs, StreamsAs};
 ghost use Rattle.workers.specs.Claims.{is_call};
 ghost use Rattle.commitlog.specs.Histories.{phase_of};
-ghost use Rattle.workers.specs.Checkpointed.{AreCuts, ImagesStay, TakesInto, call_count, last_image};
+ghost use Rattle.workers.specs.Checkpointed.{AreCuts, ImagesStay, KeepsOrigin, TakesInto, call_count, last_image};
 
 use crate::copies::copy_of_image;
 use commitlog::laws::{cuts_law, images_law};
@@ -48,11 +48,11 @@ pub fn images_stay_law()
 }
 
 impl<A: Allocator> Checkpointed<A> {
-    /// A core of which no image was taken, and the empty list that its images go into.
-    pub fn new(core: Core<A>, images: Vec<Image<A>, A>) -> Self
-        requires { images.items ≡ [] }
+    /// A core, and the images that were taken of it, to whose list those go that are taken from now on.
+    pub fn from_parts(core: Core<A>, images: Vec<Image<A>, A>) -> Self
+        requires { AreCuts core images.items }
         ensures core { result.core ≡ core }
-        ensures images { result.images ≡ [] }
+        ensures images { result.images ≡ images.items }
     {
         Checkpointed { core, images }
     }
@@ -83,6 +83,7 @@ impl<A: Allocator> Checkpointed<A> {
     pub fn give_up(&mut self, session: u16) -> Result<(), NotActive>
         ensures core { GivesUpAs self.old.core self.new.core session result }
         ensures images { self.new.images ≡ self.old.images }
+        ensures origin { KeepsOrigin self.old.core self.new.core }
         ensures calls { call_count self.new.core.log ≡ call_count self.old.core.log }
     {
         self.core.give_up(session)
@@ -91,6 +92,7 @@ impl<A: Allocator> Checkpointed<A> {
     pub fn start(&mut self, kind: Kind) -> Result<u64, StartError>
         ensures core { StartsAs self.old.core self.new.core kind result }
         ensures images { self.new.images ≡ self.old.images }
+        ensures origin { KeepsOrigin self.old.core self.new.core }
         ensures calls { call_count self.new.core.log ≡ call_count self.old.core.log }
     {
         images_stay_law();
@@ -101,6 +103,7 @@ impl<A: Allocator> Checkpointed<A> {
     pub fn start_streamed(&mut self, kind: Kind) -> Result<u64, StartError>
         ensures core { StreamsAs self.old.core self.new.core kind result }
         ensures images { self.new.images ≡ self.old.images }
+        ensures origin { KeepsOrigin self.old.core self.new.core }
         ensures calls { call_count self.new.core.log ≡ call_count self.old.core.log }
     {
         images_stay_law();
@@ -112,6 +115,7 @@ impl<A: Allocator> Checkpointed<A> {
     /// room for it; then it waits on.
     pub fn take_image(&mut self) -> Result<bool, NoMemory>
         ensures taken { TakesInto self.old self.new result }
+        ensures origin { KeepsOrigin self.old.core self.new.core }
         ensures calls { call_count self.new.core.log ≡ call_count self.old.core.log }
     {
         self.images.reserve(1)?;
@@ -136,6 +140,7 @@ impl<A: Allocator + Clone> Checkpointed<A> {
     ) -> Result<(), BeginError>
         ensures core { BeginsAs self.old.core self.new.core session number procedure (map (λ b. b.items) args.items) result }
         ensures images { self.new.images ≡ self.old.images }
+        ensures origin { KeepsOrigin self.old.core self.new.core }
         ensures calls { call_count self.new.core.log ≡ call_count self.old.core.log }
     {
         self.core.begin(session, number, procedure, args)
@@ -144,6 +149,7 @@ impl<A: Allocator + Clone> Checkpointed<A> {
     pub fn step(&mut self, session: u16) -> Result<Stepped, StepError>
         ensures core { StepsAs self.old.core self.new.core session result }
         ensures images { self.new.images ≡ self.old.images }
+        ensures origin { KeepsOrigin self.old.core self.new.core }
         ensures calls { call_count self.new.core.log ≡ call_count self.old.core.log }
     {
         self.core.step(session)
@@ -152,6 +158,7 @@ impl<A: Allocator + Clone> Checkpointed<A> {
     pub fn finish(&mut self, session: u16) -> Result<Answer<A>, FinishError>
         ensures core { FinishesAs self.old.core self.new.core session result }
         ensures images { self.new.images ≡ self.old.images }
+        ensures origin { KeepsOrigin self.old.core self.new.core }
         ensures calls { MatchResult result (λ _. call_count self.new.core.log ≡ call_count self.old.core.log + 1) (λ _. call_count self.new.core.log ≡ call_count self.old.core.log) }
     {
         images_stay_law();
@@ -162,6 +169,7 @@ impl<A: Allocator + Clone> Checkpointed<A> {
     pub fn advance(&mut self) -> Result<Phase, AdvanceError>
         ensures core { AdvancesAs self.old.core self.new.core result }
         ensures images { self.new.images ≡ self.old.images }
+        ensures origin { KeepsOrigin self.old.core self.new.core }
         ensures calls { call_count self.new.core.log ≡ call_count self.old.core.log }
     {
         images_stay_law();
@@ -172,6 +180,7 @@ impl<A: Allocator + Clone> Checkpointed<A> {
     pub fn capture(&mut self) -> Result<Captured, CaptureError>
         ensures core { VisitsAs self.old.core self.new.core result }
         ensures images { self.new.images ≡ self.old.images }
+        ensures origin { KeepsOrigin self.old.core self.new.core }
         ensures calls { call_count self.new.core.log ≡ call_count self.old.core.log }
     {
         self.core.capture()
@@ -181,6 +190,7 @@ impl<A: Allocator + Clone> Checkpointed<A> {
         ensures core { SendsAs self.old.core self.new.core tap.old tap.new result }
         ensures ring { SameTap tap.old tap.new }
         ensures images { self.new.images ≡ self.old.images }
+        ensures origin { KeepsOrigin self.old.core self.new.core }
         ensures calls { call_count self.new.core.log ≡ call_count self.old.core.log }
     {
         self.core.capture_to(tap)
@@ -206,7 +216,8 @@ fn is_call<A: Allocator>(found: &Record<A>) -> bool
     }
 }
 
-fn count_calls<A: Allocator>(records: &[Record<A>]) -> usize
+/// How many calls a log has.
+pub fn count_calls<A: Allocator>(records: &[Record<A>]) -> usize
     ensures { result ≡ call_count records.now }
 {
     records.iter().filter(|found| is_call(found)).count()

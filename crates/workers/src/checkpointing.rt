@@ -5,13 +5,12 @@ ghost use Rattle.workers.specs.Positions.{IsWithin};
 
 use crate::checkpoints::{Checkpoints, Progress, make_checkpoints};
 use crate::gates::{Gate, Point};
-use crate::shared::Shared;
+use crate::shared::{Origin, Shared};
 use image::{Image, Kind};
 use phase::Phase;
 use procedure::NoMemory;
 use std::alloc::Allocator;
 use std::sync::Wait;
-use std::sync::ledger::Ledger;
 use steps::{AdvanceError, CaptureError, Captured, StartError};
 
 /// What hears of each image that is taken.
@@ -38,14 +37,14 @@ impl<I: Drop> Listener<I> for Deaf {
 /// The checkpoints of a core under its lock, which it takes for each deed alone. Their images go into the
 /// list, and a copy of each to the listener.
 #[derive(Drop)]
-struct Locking<'a, L: Ledger, A: Allocator, R: Wait, G: Gate, P: Listener<Image<A>>> {
+struct Locking<'a, L: Origin, A: Allocator, R: Wait, G: Gate, P: Listener<Image<A>>> {
     rt: &'a R,
     shared: &'a Shared<L, A>,
     gate: &'a G,
     listener: &'a mut P,
 }
 
-impl<'a, L: Ledger, A: Allocator + Clone, R: Wait, G: Gate, P: Listener<Image<A>>> Checkpoints
+impl<'a, L: Origin, A: Allocator + Clone, R: Wait, G: Gate, P: Listener<Image<A>>> Checkpoints
     for Locking<'a, L, A, R, G, P> {
     ghost does = { λ _ _ _. Unit {0} };
 
@@ -84,7 +83,7 @@ impl<'a, L: Ledger, A: Allocator + Clone, R: Wait, G: Gate, P: Listener<Image<A>
 
 /// Makes the checkpoints from a position on, as `make_checkpoints` does. Their images go into the list, and a
 /// copy of each to the listener.
-pub(crate) fn make_from<L: Ledger, A: Allocator + Clone, R: Wait, G: Gate, P: Listener<Image<A>>>(
+pub(crate) fn make_from<L: Origin, A: Allocator + Clone, R: Wait, G: Gate, P: Listener<Image<A>>>(
     rt: &R,
     shared: &Shared<L, A>,
     kinds: &[Kind],
@@ -106,7 +105,7 @@ pub(crate) fn make_from<L: Ledger, A: Allocator + Clone, R: Wait, G: Gate, P: Li
 
 /// Makes checkpoints of these kinds, as `make_checkpoints` does, and takes their images into the list. Where
 /// there is no room in it the image waits in the core.
-pub fn run_checkpoints<L: Ledger, A: Allocator + Clone, R: Wait, G: Gate>(
+pub fn run_checkpoints<L: Origin, A: Allocator + Clone, R: Wait, G: Gate>(
     rt: &R,
     shared: &Shared<L, A>,
     kinds: &[Kind],

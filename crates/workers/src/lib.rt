@@ -39,6 +39,6 @@ pub use gates::{Gate, Open, Point};
 pub use gathering::gather;
 pub use runs::{NotRun, Report, Script, TURNS, run_all};
 pub use sessions::run_session;
-pub use shared::{Locked, Shared, Tally};
+pub use shared::{Locked, Origin, Shared, Tally};
 pub use shares::{Given, Response, Share};
 pub use streamed_runs::{StreamReport, run_streamed};

@@ -2,6 +2,7 @@
 //! each other and beside a checkpoint, and when turns run out.
 ghost use Rattle.std.specs.Prelude.{◌≡◌, ◌<◌};
 ghost use Rattle.view.specs.Views.{name_of};
+ghost use Rattle.workers.specs.Checkpointed.{IsFrom};
 
 use crate::checkpointing::run_checkpoints;
 use crate::checkpoints::Progress;
@@ -10,7 +11,7 @@ use crate::gates::{Gate, Open, Point};
 use crate::gathering::gather;
 use crate::runs::{Report, Script, run_all};
 use crate::sessions::run_session;
-use crate::shared::Shared;
+use crate::shared::{Origin, Shared};
 use crate::shares::{Given, Response, Share};
 use commitlog::{Entry, Record};
 use image::{Image, Kind};
@@ -20,7 +21,7 @@ use std::alloc::Global;
 use std::marker::Brand;
 use std::sync::Wait;
 use std::sync::atomic::{AtomicU64, Ordering};
-use std::sync::ledger::{Blank, Ledger};
+use std::sync::ledger::Blank;
 use std::test::Fail;
 use std::thread;
 use std::thread::Threads;
@@ -377,7 +378,7 @@ fn is_turns_out(response: &Response<Global>) -> bool {
 
 /// How many answers a session is given, and how many of them are that its turns ran out, while another holds
 /// the key of its first call; and where checkpoints stop then.
-fn run_out<L: Ledger, R: Wait>(
+fn run_out<L: Origin, R: Wait>(
     rt: &R,
     alloc: Global,
     core: Core<Global>,
@@ -387,6 +388,7 @@ fn run_out<L: Ledger, R: Wait>(
 ) -> (usize, usize, Progress)
     requires name { blank.name ≡ L.name }
     requires parts { blank.parts ≡ L.parts }
+    requires origin { IsFrom L.catalog L.opening core }
     requires some { 0 < L.parts }
 {
     let (shared, tally) = Shared::<L, Global>::new(core, Vec::new(alloc), blank);

@@ -2,7 +2,7 @@
 
 ghost use Rattle.std.specs.Prelude.{◌≡◌, ◌+◌, ◌<◌, ◌≤◌, [], IfErr, IfOk, length, vec_capacity, vec_len};
 ghost use Rattle.view.specs.Views.{published};
-ghost use Rattle.workers.specs.Checkpointed.{AreCuts, call_count};
+ghost use Rattle.workers.specs.Checkpointed.{AreCuts, IsFrom, KeepsOrigin, call_count};
 ghost use Rattle.workers.specs.Positions.{IsWithin};
 ghost use Rattle.workers.specs.Shares.{all_answered, answered};
 ghost use denote.Param.Send.{IsSync};
@@ -13,7 +13,7 @@ use crate::copies::copy_of_image;
 use crate::gates::Gate;
 use crate::publishing::Publishing;
 use crate::sessions::run_session;
-use crate::shared::{Shared, Tally};
+use crate::shared::{Origin, Shared, Tally};
 use crate::shares::{Response, Share};
 use image::{Image, Kind};
 use left_right::Absorb;
@@ -21,7 +21,7 @@ use procedure::{Call, NoMemory};
 use std::alloc::Allocator;
 use std::marker::Brand;
 use std::sync::Wait;
-use std::sync::ledger::{Blank, Ledger};
+use std::sync::ledger::Blank;
 use std::thread;
 use std::thread::Threads;
 use steps::Core;
@@ -46,7 +46,7 @@ pub(crate) struct Work<A: Allocator> {
     ghost empty: { answers.items ≡ [] },
 }
 
-fn run_work<L: Ledger, A: Allocator + Clone, R: Wait, G: Gate>(
+fn run_work<L: Origin, A: Allocator + Clone, R: Wait, G: Gate>(
     rt: &R,
     shared: &Shared<L, A>,
     tally: Tally<L>,
@@ -73,7 +73,7 @@ fn run_work<L: Ledger, A: Allocator + Clone, R: Wait, G: Gate>(
 /// A thread for each script. Their shares go behind those that are there, and their tallies into the one
 /// that is left.
 pub(crate) fn run_each<
-    L: Ledger + Send + Sync,
+    L: Origin + Send + Sync,
     A: Allocator + Clone + Send + Sync,
     R: Threads + Wait + Sync,
     G: Gate + Sync,
@@ -134,7 +134,7 @@ struct Ran<A: Allocator> {
 
 /// Runs the scripts and makes the checkpoints. Those that are left when the sessions have ended are made then.
 fn run_in<
-    L: Ledger + Send + Sync,
+    L: Origin + Send + Sync,
     A: Allocator + Clone + Send + Sync,
     P: Listener<Image<A>> + Send,
     R: Threads + Wait + Sync,
@@ -152,10 +152,12 @@ fn run_in<
 ) -> Ran<A>
     requires name { blank.name ≡ L.name }
     requires parts { (blank.parts ≡ L.parts) × (vec_len works < L.parts) }
+    requires origin { IsFrom L.catalog L.opening core }
     requires room { vec_len shares + vec_len works ≤ vec_capacity shares }
     requires empty { (shares.items ≡ []) × (images.items ≡ []) }
     ensures calls { call_count result.core.log ≡ call_count core.log + all_answered result.shares.items }
     ensures cuts { AreCuts result.core result.images.items }
+    ensures origin { IsFrom L.catalog L.opening result.core }
     ensures len { vec_len result.shares ≡ vec_len shares + vec_len works }
     ensures within { IsWithin (length kinds.now) result.checkpoints }
 {
@@ -288,6 +290,7 @@ pub fn run_all<
     gate: &G,
 ) -> Result<Report<J, Q, A>, NotRun<J, Q, A>>
     ensures calls { IfOk result (λ r. call_count r.core.log ≡ call_count core.log + all_answered r.shares.items) }
+    ensures origin { IfOk result (λ r. KeepsOrigin core r.core) }
     ensures cuts { IfOk result (λ r. AreCuts r.core r.images.items) }
     ensures len { IfOk result (λ r. vec_len r.shares ≡ vec_len scripts) }
     ensures within { IfOk result (λ r. IsWithin (length kinds.now) r.checkpoints) }

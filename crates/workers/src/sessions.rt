@@ -7,18 +7,17 @@ ghost use Rattle.workers.specs.Shares.{answered};
 use crate::calls::{Session, make_calls};
 use crate::copies::copy_of_args;
 use crate::gates::{Gate, Point};
-use crate::shared::{Shared, Tally};
+use crate::shared::{Origin, Shared, Tally};
 use crate::shares::{Response, Share};
 use procedure::{Call, NoMemory};
 use std::alloc::Allocator;
 use std::sync::Wait;
-use std::sync::ledger::Ledger;
 use steps::{Answer, BeginError, FinishError, StepError, Stepped};
 
 /// A session of a core under its lock, which it takes for each deed alone. Its tally grows by one for each
 /// answer with a place. A call's own session isn't read.
 #[derive(Drop)]
-struct Locking<'a, L: Ledger, A: Allocator, R: Wait, G: Gate> {
+struct Locking<'a, L: Origin, A: Allocator, R: Wait, G: Gate> {
     rt: &'a R,
     shared: &'a Shared<L, A>,
     tally: Tally<L>,
@@ -27,7 +26,7 @@ struct Locking<'a, L: Ledger, A: Allocator, R: Wait, G: Gate> {
     ghost counts: { 0 < tally.part.parts },
 }
 
-impl<'a, L: Ledger, A: Allocator + Clone, R: Wait, G: Gate> Session<A> for Locking<'a, L, A, R, G> {
+impl<'a, L: Origin, A: Allocator + Clone, R: Wait, G: Gate> Session<A> for Locking<'a, L, A, R, G> {
     ghost does = { λ d s t. (t.tally.part.parts ≡ s.tally.part.parts)
         × (t.tally.part.amount ≡ s.tally.part.amount + gains d) };
 
@@ -63,7 +62,7 @@ impl<'a, L: Ledger, A: Allocator + Clone, R: Wait, G: Gate> Session<A> for Locki
 
 /// Makes the calls of a session in order, as `make_calls` does, and keeps an answer to each in the list, which
 /// is empty. The tally grows by one for each answer with a place. A call's own session isn't read.
-pub fn run_session<L: Ledger, A: Allocator + Clone, R: Wait, G: Gate>(
+pub fn run_session<L: Origin, A: Allocator + Clone, R: Wait, G: Gate>(
     rt: &R,
     answers: Vec<Response<A>, A>,
     shared: &Shared<L, A>,

@@ -4,7 +4,7 @@ ghost use Rattle.std.specs.Prelude.{◌≡◌, ◌+◌, ◌<◌, [], IfOk, Match
 ghost use Rattle.commitlog.specs.Histories.{phase_of};
 ghost use Rattle.pipe.specs.Rings.{SameTap};
 ghost use Rattle.steps.specs.Schedules.{AdvancesAs, BeginsAs, FinishesAs, GivesUpAs, StartsAs, StepsAs, VisitsAs};
-ghost use Rattle.workers.specs.Checkpointed.{AreCuts, TakesInto, call_count, last_image};
+ghost use Rattle.workers.specs.Checkpointed.{AreCuts, IsFrom, TakesInto, call_count, last_image};
 ghost use Rattle.workers.specs.Streams.{SendsAs, StreamsAs};
 
 use crate::checkpointed::Checkpointed;
@@ -13,12 +13,35 @@ use phase::Phase;
 use pipe::Tap;
 use procedure::NoMemory;
 use std::alloc::Allocator;
+use std::marker::Brand;
 use std::sync::Mutex;
 use std::sync::ledger::{Blank, Book, Ledger, Share as Part};
 use steps::{
     AdvanceError, Answer, BeginError, CaptureError, CaptureToError, Captured, Core, FinishError,
     NotActive, StartError, StepError, Stepped,
 };
+
+/// Names what a shared core was opened with, its procedures and its opening, and the ledger of its calls. No
+/// value of it is made. The function that shares the core picks the names, as `Brand` where its own caller gives
+/// none.
+pub trait Origin: Ledger {
+    ghost use Rattle.std.specs.Prelude.{List};
+    ghost use Rattle.image.specs.Images.{Image};
+    ghost use Rattle.procedure.specs.Procedures.{Procedure};
+
+    ghost catalog: { List Procedure };
+
+    ghost opening: { Image };
+}
+
+impl Origin for Brand {
+    ghost use Rattle.std.specs.Prelude.{[]};
+    ghost use Rattle.image.specs.declared.images.Kind.TheVariants.{Full};
+
+    ghost catalog = { [] };
+
+    ghost opening = { record { kind = Full; number = 0; base = 0; place = 0; entries = [] } };
+}
 
 /// A part of the count of a log's calls. What it grows by is how many answers with a place its holder was
 /// given.
@@ -27,16 +50,17 @@ pub struct Tally<L: Ledger> {
     pub part: Part<L>,
 }
 
-/// What lies under the lock: a core with its images, and the book of a ledger whose total is the number of
-/// the log's calls. Each method is one call of the core.
+/// What lies under the lock: a core with its images, of the procedures and the opening that it was shared with,
+/// and the book of a ledger whose total is the number of the log's calls. Each method is one call of the core.
 #[derive(Drop)]
-pub struct Locked<L: Ledger, A: Allocator> {
+pub struct Locked<L: Origin, A: Allocator> {
     held: Checkpointed<A>,
     calls: Book<L>,
     ghost counted: { call_count held.core.log ≡ calls.total },
+    ghost origin: { IsFrom L.catalog L.opening held.core },
 }
 
-impl<L: Ledger, A: Allocator + Clone> Locked<L, A> {
+impl<L: Origin, A: Allocator + Clone> Locked<L, A> {
     pub fn begin(
         &mut self,
         session: u16,
@@ -129,21 +153,22 @@ impl<L: Ledger, A: Allocator + Clone> Locked<L, A> {
 
 /// A core under its lock.
 #[derive(Drop)]
-pub struct Shared<L: Ledger, A: Allocator> {
+pub struct Shared<L: Origin, A: Allocator> {
     pub(crate) lock: Mutex<Locked<L, A>>,
 }
 
-impl<L: Ledger, A: Allocator> Shared<L, A> {
+impl<L: Origin, A: Allocator> Shared<L, A> {
     /// A core under a lock, and the whole tally, whose amount is the number of calls that the log has. The
     /// images go into the list, which is empty.
     pub fn new(core: Core<A>, images: Vec<Image<A>, A>, blank: Blank) -> (Self, Tally<L>)
         requires name { blank.name ≡ L.name }
         requires parts { (blank.parts ≡ L.parts) × (0 < L.parts) }
+        requires origin { IsFrom L.catalog L.opening core }
         requires empty { images.items ≡ [] }
         ensures parts { result.1.part.parts ≡ L.parts }
         ensures amount { result.1.part.amount ≡ call_count core.log }
     {
-        let held = Checkpointed::new(core, images);
+        let held = Checkpointed::from_parts(core, images);
         let (mut calls, mut part) = blank.open::<L>();
         let count = held.count_calls();
         calls.add(&mut part, count as u64);
@@ -154,12 +179,13 @@ impl<L: Ledger, A: Allocator> Shared<L, A> {
         (shared, Tally { part })
     }
 
-    /// The core and its images, by the whole tally. The log has as many calls as that says, and each image is
-    /// that of its checkpoint in the log.
+    /// The core and its images, by the whole tally. The log has as many calls as that says, each image is that
+    /// of its checkpoint in the log, and the core has the procedures and the opening that it was shared with.
     pub fn close(self, all: Tally<L>) -> (Core<A>, Vec<Image<A>, A>)
         requires { all.part.parts ≡ L.parts }
         ensures calls { call_count result.0.log ≡ all.part.amount }
         ensures cuts { AreCuts result.0 result.1.items }
+        ensures origin { IsFrom L.catalog L.opening result.0 }
     {
         let mut all = all;
         let Locked { held, mut calls } = self.lock.into_inner();

@@ -4,7 +4,7 @@ ghost use Rattle.std.specs.Prelude.{◌≡◌, ◌+◌, ◌<◌, ◌≤◌, [], 
 ghost use Rattle.image.specs.Merges.{table_of};
 ghost use Rattle.pipe.specs.Rings.{IsPair, SameDrain, SameTap};
 ghost use Rattle.pipe.specs.declared.limits.TheConstants.{CAPACITY};
-ghost use Rattle.workers.specs.Checkpointed.{call_count};
+ghost use Rattle.workers.specs.Checkpointed.{IsFrom, KeepsOrigin, call_count};
 ghost use Rattle.workers.specs.Shares.{all_answered};
 ghost use Rattle.workers.specs.Streams.{IsStreamed};
 ghost use Rattle.workers.specs.declared.errors.StreamError.TheVariants as refused;
@@ -13,7 +13,7 @@ ghost use denote.Param.Send.{IsSync};
 use crate::errors::StreamError;
 use crate::gates::Gate;
 use crate::runs::{Room, Script, Work, prepare, run_each};
-use crate::shared::{Shared, Tally};
+use crate::shared::{Origin, Shared, Tally};
 use crate::shares::Share;
 use crate::streams::{Streamed, drain_beside, stream_beside, stream_left};
 use image::{AssembleError, Image, Kind, assemble};
@@ -22,7 +22,7 @@ use std::alloc::Allocator;
 use std::marker::Brand;
 use std::sync::Wait;
 use std::sync::atomic::AtomicBool;
-use std::sync::ledger::{Blank, Ledger};
+use std::sync::ledger::Blank;
 use std::thread;
 use std::thread::Threads;
 use steps::Core;
@@ -50,7 +50,7 @@ struct Ran<A: Allocator> {
 
 /// Runs the scripts in threads, while the caller drains.
 fn run_beside<
-    L: Ledger + Send + Sync,
+    L: Origin + Send + Sync,
     A: Allocator + Clone + Send + Sync,
     R: Threads + Wait + Sync,
     G: Gate + Sync,
@@ -84,7 +84,7 @@ fn run_beside<
 
 /// Runs the scripts and makes the checkpoint, which is ended alone where the turns ran out.
 fn stream_in<
-    L: Ledger + Send + Sync,
+    L: Origin + Send + Sync,
     A: Allocator + Clone + Send + Sync,
     R: Threads + Wait + Sync,
     G: Gate + Sync,
@@ -100,10 +100,12 @@ fn stream_in<
 ) -> Ran<A>
     requires name { blank.name ≡ L.name }
     requires parts { (blank.parts ≡ L.parts) × (vec_len room.works < L.parts) }
+    requires origin { IsFrom L.catalog L.opening core }
     requires room { vec_len room.shares + vec_len room.works ≤ vec_capacity room.shares }
     requires empty { (room.shares.items ≡ []) × (room.images.items ≡ []) }
     requires ring { IsPair ends.0 ends.1 }
     ensures calls { call_count result.core.log ≡ call_count core.log + all_answered result.shares.items }
+    ensures origin { IsFrom L.catalog L.opening result.core }
     ensures len { vec_len result.shares ≡ vec_len room.shares + vec_len room.works }
     ensures ring { IsPair result.tap result.drain }
 {
@@ -146,6 +148,7 @@ fn image_of<A: Allocator + Clone>(
 ) -> Result<Image<A>, StreamError>
     requires { IsPair tap drain }
     ensures log { core.new.log ≡ core.old.log }
+    ensures origin { KeepsOrigin core.old core.new }
     ensures image { IfOk result (IsStreamed core.new) }
     ensures ring { result ≡ Err refused.NoRing → ⊥ }
 {
@@ -185,6 +188,7 @@ fn without_image<A: Allocator>(
 fn report_of<A: Allocator + Clone>(alloc: A, ran: Ran<A>) -> StreamReport<A>
     requires { IsPair ran.tap ran.drain }
     ensures log { result.core.log ≡ ran.core.log }
+    ensures origin { KeepsOrigin ran.core result.core }
     ensures shares { result.shares ≡ ran.shares }
     ensures image { IfOk result.image (IsStreamed result.core) }
     ensures ring { result.image ≡ Err refused.NoRing → ⊥ }
@@ -237,6 +241,7 @@ pub fn run_streamed<A: Allocator + Copy + Send + Sync, R: Threads + Wait + Sync,
 ) -> StreamReport<A>
     requires capacity { (0 < capacity) × (capacity ≤ CAPACITY) }
     ensures calls { call_count result.core.log ≡ call_count core.log + all_answered result.shares.items }
+    ensures origin { KeepsOrigin core result.core }
     ensures image { IfOk result.image (IsStreamed result.core) }
     ensures ring { result.image ≡ Err refused.NoRing → (result.core ≡ core) × (result.shares.items ≡ []) }
 {

@@ -4,7 +4,7 @@ ghost use Rattle.pipe.specs.Rings.{SameDrain, SameTap};
 
 use crate::errors::CheckpointRefusal;
 use crate::gates::{Gate, Point};
-use crate::shared::Shared;
+use crate::shared::{Origin, Shared};
 use image::Kind;
 use image::limits::ENTRIES;
 use phase::Phase;
@@ -12,7 +12,6 @@ use pipe::{Drain, Tap};
 use std::alloc::Allocator;
 use std::sync::Wait;
 use std::sync::atomic::{AtomicBool, Ordering};
-use std::sync::ledger::Ledger;
 use std::thread;
 use steps::{AdvanceError, CaptureToError, Captured};
 
@@ -38,7 +37,7 @@ enum Reached {
 const MOVES: usize = 4;
 
 /// Visits the places that the scan has left, at most this many. It stops where the ring is full.
-fn send_rest<L: Ledger, A: Allocator + Clone, R: Wait, G: Gate>(
+fn send_rest<L: Origin, A: Allocator + Clone, R: Wait, G: Gate>(
     rt: &R,
     shared: &Shared<L, A>,
     tap: &mut Tap<A>,
@@ -59,7 +58,7 @@ fn send_rest<L: Ledger, A: Allocator + Clone, R: Wait, G: Gate>(
 }
 
 /// Sends what the scan has left, and enters the next phase.
-fn move_on<L: Ledger, A: Allocator + Clone, R: Wait, G: Gate>(
+fn move_on<L: Origin, A: Allocator + Clone, R: Wait, G: Gate>(
     rt: &R,
     shared: &Shared<L, A>,
     tap: &mut Tap<A>,
@@ -77,7 +76,7 @@ fn move_on<L: Ledger, A: Allocator + Clone, R: Wait, G: Gate>(
 }
 
 /// Enters one phase after another.
-fn go_on<L: Ledger, A: Allocator + Clone, R: Wait, G: Gate>(
+fn go_on<L: Origin, A: Allocator + Clone, R: Wait, G: Gate>(
     rt: &R,
     shared: &Shared<L, A>,
     tap: &mut Tap<A>,
@@ -98,7 +97,7 @@ fn go_on<L: Ledger, A: Allocator + Clone, R: Wait, G: Gate>(
 }
 
 /// Brings a streamed checkpoint to its end, while another drains.
-fn stream<L: Ledger, A: Allocator + Clone, R: Wait, G: Gate>(
+fn stream<L: Origin, A: Allocator + Clone, R: Wait, G: Gate>(
     rt: &R,
     shared: &Shared<L, A>,
     tap: &mut Tap<A>,
@@ -118,7 +117,7 @@ fn stream<L: Ledger, A: Allocator + Clone, R: Wait, G: Gate>(
 }
 
 /// Begins a streamed checkpoint and brings it to its end, while another drains. Without turns none begins.
-fn begin<L: Ledger, A: Allocator + Clone, R: Wait, G: Gate>(
+fn begin<L: Origin, A: Allocator + Clone, R: Wait, G: Gate>(
     rt: &R,
     shared: &Shared<L, A>,
     kind: Kind,
@@ -140,7 +139,7 @@ fn begin<L: Ledger, A: Allocator + Clone, R: Wait, G: Gate>(
 }
 
 /// Makes a streamed checkpoint, and then tells the end to the one who drains.
-pub(crate) fn stream_beside<L: Ledger, A: Allocator + Clone, R: Wait, G: Gate>(
+pub(crate) fn stream_beside<L: Origin, A: Allocator + Clone, R: Wait, G: Gate>(
     rt: &R,
     shared: &Shared<L, A>,
     kind: Kind,
@@ -195,7 +194,7 @@ pub(crate) fn drain_beside<A: Allocator>(
 }
 
 /// Brings a streamed checkpoint to its end, and drains in between.
-fn stream_alone<L: Ledger, A: Allocator + Clone, R: Wait, G: Gate>(
+fn stream_alone<L: Origin, A: Allocator + Clone, R: Wait, G: Gate>(
     rt: &R,
     shared: &Shared<L, A>,
     tap: &mut Tap<A>,
@@ -218,7 +217,7 @@ fn stream_alone<L: Ledger, A: Allocator + Clone, R: Wait, G: Gate>(
 }
 
 /// Brings a checkpoint to its end for which no turn was left.
-pub(crate) fn stream_left<L: Ledger, A: Allocator + Clone, R: Wait, G: Gate>(
+pub(crate) fn stream_left<L: Origin, A: Allocator + Clone, R: Wait, G: Gate>(
     rt: &R,
     shared: &Shared<L, A>,
     streamed: Streamed,

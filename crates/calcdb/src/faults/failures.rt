@@ -34,7 +34,10 @@ impl fmt::Display for OutFile<'_> {
     fn fmt<W: fmt::Write>(&self, f: &mut fmt::Formatter<W>) -> fmt::Result {
         match self {
             OutFile::Named(name) => write!(f, "{name}"),
-            OutFile::InFolder(folder, file) => write!(f, "{folder}/{file}"),
+            OutFile::InFolder(folder, file) => {
+                let folder = folder.strip_suffix('/').unwrap_or(folder);
+                write!(f, "{folder}/{file}")
+            }
         }
     }
 }

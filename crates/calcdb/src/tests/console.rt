@@ -6,14 +6,16 @@
 //! - `scarce calcdb WORDS = COUNT`: with each growth refused in turn it says so, at least so often, or
 //!   does as ever;
 //! - `cramped calcdb WORDS = FILES`: the same where all answers are written; of the files, a line each with
-//!   their sizes, the first ones are whole then, and there is none after the next one;
-//! - `unsaved calcdb WORDS = FILES`: each read, write and flush of a file fails in turn, and files take few
-//!   bytes a call: the first file that isn't whole is said not to be read or written, and none follows;
+//!   their sizes, the first ones are whole then, and the others have what was there before;
+//! - `unsaved calcdb WORDS = FILES`: each read, write, flush and renaming of a file fails in turn, and files
+//!   take few bytes a call: the first file that isn't whole is said not to be read or written, and it and
+//!   those after it have what was there before;
 //! - `bytewise calcdb WORDS = COUNT`: so many bytes are written, a byte a call, and each call in turn fails;
 //! - `unwritten calcdb WORDS = -`: it ends where standard output takes no write, or can't be flushed;
 //! - `misused calcdb WORDS = -`: they ask for nothing;
 //! - `size NAME = COUNT`, or `none`; and `same NAME = NAME`: what files have;
-//! - `folder NAME = -` and `remove NAME = -`;
+//! - `folder NAME = -`, `remove NAME = -`, `link NAME = NAME`; `private NAME = -`, which its owner alone may
+//!   use, and `mode NAME = DIGITS`, who may;
 //! - any other makes a file of this name, see `made_files.rt`.
 
 use crate::program::perform;
@@ -24,8 +26,9 @@ use crate::tests::made_files::make_file;
 use crate::tests::rows::{Line, check_named, check_that, number_of, rows_of};
 use crate::tests::texts::words_of;
 use std::alloc::{Allocator, Global};
-use std::fs;
+use std::fs::{self, Permissions};
 use std::io::ErrorKind;
+use std::os::unix::fs::PermissionsExt;
 use std::process::Abort;
 use std::rt::Files;
 use std::sync::Wait;
@@ -63,6 +66,9 @@ fn behind_status(transcript: &[u8]) -> &[u8] {
 
 /// What is said on standard error where there is no memory.
 const NO_MEMORY: &[u8] = b"err calcdb: no memory\n";
+
+/// What a file has before a command makes it anew.
+const OLD: &[u8] = b"old";
 
 /// Lines that say out of memory, each at the end of what a command comes to.
 const WANTS: [&[u8]; 2] = [b"out refused no memory\n", NO_MEMORY];
@@ -208,31 +214,30 @@ where
         })
     }
 
-    /// How many of the files stand whole: the first ones, of which the next may have a part, and none after it.
+    /// How many of the files stand whole: the first ones. The others have what was there before.
     fn whole_files(&self, files: &str) -> Result<usize, Fail> {
         let mut whole = 0usize;
         let mut ended = false;
         for line in files.lines() {
             let (name, size) = line.split_once(' ').ok_or("no size")?;
             let found = self.size_of(name)?;
-            if ended && found.as_str() != "none\n" {
-                return Err("a file stands after one that isn't whole".into());
-            }
-            if found.as_str().trim_end() == size {
+            if !ended && found.as_str().trim_end() == size {
                 whole = whole.saturating_add(1);
             } else {
                 ended = true;
+                check_that(self.rt, name, fs::read(self.rt, name)?.as_slice() == OLD);
             }
         }
         Ok(whole)
     }
 
-    fn remove_files(&self, files: &str) {
+    /// Makes each of the files one that was there before.
+    fn leave_old(&self, files: &str) -> Result<(), Fail> {
         for line in files.lines() {
-            if let Some((name, _)) = line.split_once(' ') {
-                let _ = fs::remove_file(self.rt, name);
-            }
+            let (name, _) = line.split_once(' ').ok_or("no size")?;
+            fs::write(self.rt, name, OLD)?;
         }
+        Ok(())
     }
 
     /// How many files stand whole where a command ended out of memory after all its answers.
@@ -257,7 +262,7 @@ where
         let whole = self.found_of(&heap, line)?;
         let mut next = 0usize;
         for refused in 1..MOST {
-            self.remove_files(files);
+            self.leave_old(files)?;
             heap.arm(refused);
             let found = self.found_of(&heap, line)?;
             if let Some(front) = self.written_before(found.as_slice(), whole.as_slice(), files)? {
@@ -305,18 +310,13 @@ where
         Ok(front.strip_suffix(said.as_bytes()) == Some(behind_status(whole)))
     }
 
-    /// Which of the files is said not to be written: those before it stand whole, and none after it. It is
-    /// whole itself where it can't be flushed.
+    /// Which of the files is said not to be written: those before it stand whole, and no other.
     fn unsaved_file(&self, found: &[u8], whole: &[u8], files: &str) -> Result<usize, Fail> {
         let standing = self.whole_files(files)?;
         for (at, line) in files.lines().enumerate() {
             let (name, _) = line.split_once(' ').ok_or("no size")?;
             if self.is_unsaved(found, whole, name)? {
-                check_that(
-                    self.rt,
-                    name,
-                    standing == at || standing == at.saturating_add(1),
-                );
+                check_that(self.rt, name, standing == at);
                 return Ok(at);
             }
         }
@@ -330,7 +330,7 @@ where
         let whole = self.found_of(self.rt.alloc(), line)?;
         let mut next = 0usize;
         for failing in 1..MOST {
-            self.remove_files(files);
+            self.leave_old(files)?;
             calls.arm(failing);
             let found = self.found_over(&calls, line)?;
             if calls.asked() < failing {
@@ -421,6 +421,14 @@ where
         Ok(())
     }
 
+    /// Compares who may read, write and run a file.
+    fn check_mode(&self, name: &str, wanted: &str) -> Result<(), Fail> {
+        let mode = fs::metadata(self.rt, name)?.permissions().mode() & 0o777;
+        let found = format!(in self.rt.alloc(); "{mode:o}\n")?;
+        check_named(self.rt, name, found.as_bytes(), wanted);
+        Ok(())
+    }
+
     fn make_folder(&self, name: &str) -> Result<(), Fail> {
         Ok(fs::create_dir(self.rt, name)?)
     }
@@ -430,6 +438,9 @@ where
             "size" => self.check_size(name, wanted),
             "same" => self.check_same(name, wanted.trim_end()),
             "folder" => self.make_folder(name),
+            "link" => Ok(self.rt.symlink(wanted.trim_end(), name)?),
+            "private" => Ok(fs::set_permissions(self.rt, name, Permissions::from_mode(0o600))?),
+            "mode" => self.check_mode(name, wanted),
             "remove" => self.remove(name),
             _ => make_file(self.rt, verb, name, wanted),
         }

@@ -2,8 +2,9 @@
 //! bytes a call.
 
 use std::alloc::Allocator;
-use std::fs::{Metadata, OpenFile, OpenOptions};
+use std::fs::{Metadata, OpenFile, OpenOptions, Permissions};
 use std::io::{Error, ErrorKind, Read, Result as IoResult, Seek, SeekFrom, Write};
+use std::path::PathBuf;
 use std::rt::Files;
 use std::sync::atomic::{AtomicU64, Ordering};
 
@@ -95,6 +96,10 @@ impl<F: OpenFile + Drop> OpenFile for FaultyFile<'_, F> {
     fn sync_data(&self) -> IoResult<()> {
         self.file.sync_data()
     }
+
+    fn set_permissions(&self, perm: Permissions) -> IoResult<()> {
+        self.file.set_permissions(perm)
+    }
 }
 
 /// The files of a runtime, with calls that are counted.
@@ -134,6 +139,7 @@ impl<'a, R: Files> Files for FaultyFiles<'a, R> {
     }
 
     fn rename(&self, from: &str, to: &str) -> IoResult<()> {
+        self.calls.enter()?;
         self.rt.rename(from, to)
     }
 
@@ -151,5 +157,9 @@ impl<'a, R: Files> Files for FaultyFiles<'a, R> {
 
     fn remove_dir_all<B: Allocator>(&self, alloc: B, path: &str) -> IoResult<()> {
         self.rt.remove_dir_all(alloc, path)
+    }
+
+    fn canonicalize<B: Allocator>(&self, alloc: B, path: &str) -> IoResult<PathBuf<B>> {
+        self.rt.canonicalize(alloc, path)
     }
 }

@@ -1,5 +1,6 @@
 //! What stays in memory: an answer, an image and a sealed image have at most twice the room of what they hold,
-//! and a core keeps nothing of its calls and checkpoints but their records.
+//! and a core keeps nothing of its calls and checkpoints but their records, and for each session the room for the
+//! notes of one call.
 
 use crate::tests::core_calls::key_and_value;
 use crate::tests::fixtures::opened;

@@ -1,7 +1,8 @@
 -- Whether a call has ended, by its machine as it is kept and by its run alone.
-use Rattle.std.proofs.Common.{◌≡◌, ℕ, Bool, true, false, not, cond, List, Some, None, option_map, refl, sym, ap, ◌∙◌, subst, ◌||◌}
+use Rattle.std.proofs.Common.{◌≡◌, ℕ, Bool, true, false, not, cond, List, Option, Some, None, Vec, option_map, refl, sym, ap, ◌∙◌, subst, ◌||◌, true≢false}
 use Rattle.std.specs.Prelude.{◌==◌, length}
 use Rattle.std.specs.Option.{option_or}
+use Rattle.std.proofs.lemmas.Bool.{eq-eqb, ne_eqb}
 use Rattle.procedure.specs.Bytes.{Cell}
 use Rattle.procedure.specs.Runs.{Front, Progress, ended, is_nil}
 use Rattle.commitlog.specs.Histories.{last_number}
@@ -14,7 +15,9 @@ use Rattle.steps.specs.inside.CoreFields.{IsCore, call_at, underway, view_of, ei
 use Rattle.image.specs.Merges.{table_of}
 use Rattle.steps.specs.CoreViews.{CoreView, IsSmall, Underway, OfOpen, front_of, open_at}
 use Rattle.steps.specs.Refusals.{refused_unless, unfinished, finish_refusal}
+use Rattle.steps.specs.inside.Endings.{unanswered}
 use Rattle.steps.specs.declared.calls.OpenCall.{OpenCall}
+use Rattle.steps.specs.declared.notes.Note.{Note}
 use Rattle.steps.specs.declared.cores.Core.TheInside.{Inside}
 use Rattle.steps.specs.declared.errors.FinishError.TheVariants as refused
 use Rattle.steps.proofs.sessions.EndedCall.{machine_is}
@@ -29,12 +32,32 @@ going p e = by (is_nil p.rest) e
     by true e = absurd (cc)
     by false e = refl
 
-done : (p : Progress) (o : ℕ) → ended p ≡ Some o → (is_nil p.rest ≡ true) × (o ≡ p.outcome)
+pub done : (p : Progress) (o : ℕ) → ended p ≡ Some o → (is_nil p.rest ≡ true) × (o ≡ p.outcome)
 done p o e = by (is_nil p.rest) e
   where
     by : (b : Bool) → cond b (Some p.outcome) None ≡ Some o → (b ≡ true) × (o ≡ p.outcome)
     by true e = (refl, cc)
     by false e = absurd (cc)
+
+-- a call that goes on isn't answered, and one that has ended is, if the log isn't full
+pub going_on : (p : Progress) (full : Bool) → ended p ≡ None → unanswered p full ≡ Some refused.NotReady
+going_on p full e = ap (λ b. option_or (refused_unless b refused.NotReady) (refused_unless (not full) refused.LogFull)) (going p e)
+
+pub ended_by : (p : Progress) (o : ℕ) (full : Bool) → ended p ≡ Some o → unanswered p full ≡ refused_unless (not full) refused.LogFull
+ended_by p o full e = ap (λ b. option_or (refused_unless b refused.NotReady) (refused_unless (not full) refused.LogFull)) (done p o e).0
+
+pub ready : (p : Progress) (full : Bool) → unanswered p full ≡ None → (is_nil p.rest ≡ true) × (full ≡ false)
+ready p full e = by (is_nil p.rest) full e
+  where
+    by : (a b : Bool) → option_or (refused_unless a refused.NotReady) (refused_unless (not b) refused.LogFull) ≡ None → (a ≡ true) × (b ≡ false)
+    by true true e = absurd (cc)
+    by true false e = (refl, refl)
+    by false b e = absurd (cc)
+
+-- a test that tells whether two numbers are the same
+pub same_test : (b : Bool) (n m : ℕ) → (b ≡ true → n ≡ m) → (n ≡ m → b ≡ true) → b ≡ (n == m)
+same_test true n m f g = sym (eq-eqb n m (f refl))
+same_test false n m f g = sym (ne_eqb n m (λ e. true≢false (sym (g e))))
 
 module _ {A : Type 0} (c : Inside A) (ok : IsCore c) (v : CoreView) (same : view_of c ≡ v) (s : ℕ) where
   pub open_is : (k : OpenCall A) → call_at c s ≡ Some k → open_at v s ≡ Some (underway k)
@@ -53,46 +76,20 @@ module _ {A : Type 0} (c : Inside A) (ok : IsCore c) (v : CoreView) (same : view
       let which : underway k ≡ u = cc in
       subst (λ (w : Underway). P (front_of v w).progress) which (subst P (progress_is k is) here)
 
-  refusal_at :
-      (k : OpenCall A) → call_at c s ≡ Some k →
-      finish_refusal v s ≡ option_or (refused_unless (is_nil k.machine.progress.rest) refused.NotReady) (refused_unless (not (length v.log == LOG_RECORDS)) refused.LogFull)
-  refusal_at k is =
+  pub refusal_is : (k : OpenCall A) (full : Bool) → call_at c s ≡ Some k → full ≡ (length v.log == LOG_RECORDS) → finish_refusal v s ≡ unanswered k.machine.progress full
+  refusal_is k full is e =
       ap (unfinished v) (open_is k is)
-      ∙ ap (λ (p : Progress). option_or (refused_unless (is_nil p.rest) refused.NotReady) (refused_unless (not (length v.log == LOG_RECORDS)) refused.LogFull)) (sym (progress_is k is))
+      ∙ ap (λ (p : Progress). unanswered p (length v.log == LOG_RECORDS)) (sym (progress_is k is))
+      ∙ ap (unanswered k.machine.progress) (sym e)
 
   pub not_active : call_at c s ≡ None → finish_refusal v s ≡ Some refused.NotActive
   not_active is = ap (unfinished v) (ap (λ (w : CoreView). open_at w s) (sym same) ∙ shown_at c s ∙ ap (option_map underway) is)
 
-  pub not_ready : (k : OpenCall A) → call_at c s ≡ Some k → ended k.machine.progress ≡ None → finish_refusal v s ≡ Some refused.NotReady
-  not_ready k is e = refusal_at k is ∙ ap (λ b. option_or (refused_unless b refused.NotReady) (refused_unless (not (length v.log == LOG_RECORDS)) refused.LogFull)) (going k.machine.progress e)
-
-  pub log_full : (k : OpenCall A) (o : ℕ) → call_at c s ≡ Some k → ended k.machine.progress ≡ Some o → (length v.log == LOG_RECORDS) ≡ true → finish_refusal v s ≡ Some refused.LogFull
-  log_full k o is e full =
-      refusal_at k is ∙ ap (λ b. option_or (refused_unless b refused.NotReady) (refused_unless (not (length v.log == LOG_RECORDS)) refused.LogFull)) (done k.machine.progress o e).0
-      ∙ ap (λ b. refused_unless (not b) refused.LogFull) full
-
-  pub no_refusal : (k : OpenCall A) (o : ℕ) → call_at c s ≡ Some k → ended k.machine.progress ≡ Some o → (length v.log == LOG_RECORDS) ≡ false → finish_refusal v s ≡ None
-  no_refusal k o is e full =
-      refusal_at k is ∙ ap (λ b. option_or (refused_unless b refused.NotReady) (refused_unless (not (length v.log == LOG_RECORDS)) refused.LogFull)) (done k.machine.progress o e).0
-      ∙ ap (λ b. refused_unless (not b) refused.LogFull) full
-
-  pub outcome_is : (k : OpenCall A) (o : ℕ) → call_at c s ≡ Some k → ended k.machine.progress ≡ Some o → OfOpen v s (λ u. o ≡ (front_of v u).outcome)
-  outcome_is k o is e = progress_of k is (λ p. o ≡ p.outcome) (done k.machine.progress o e).1
+  pub outcome_is : (k : OpenCall A) (o : ℕ) → call_at c s ≡ Some k → o ≡ k.machine.progress.outcome → OfOpen v s (λ u. o ≡ (front_of v u).outcome)
+  outcome_is k o is e = progress_of k is (λ p. o ≡ p.outcome) e
 
   pub replies_are : (k : OpenCall A) (replies : List Cell) → call_at c s ≡ Some k → replies ≡ k.machine.progress.replies → OfOpen v s (λ u. replies ≡ (front_of v u).replies)
   replies_are k replies is e = progress_of k is (λ p. replies ≡ p.replies) e
-
-  -- a call that isn't refused has ended, and the log isn't full
-  pub ready : (k : OpenCall A) → call_at c s ≡ Some k → finish_refusal v s ≡ None → (is_nil k.machine.progress.rest ≡ true) × ((length v.log == LOG_RECORDS) ≡ false)
-  ready k is e = by (is_nil k.machine.progress.rest) (length v.log == LOG_RECORDS) (sym (refusal_at k is) ∙ e)
-    where
-      by : (a b : Bool) → option_or (refused_unless a refused.NotReady) (refused_unless (not b) refused.LogFull) ≡ None → (a ≡ true) × (b ≡ false)
-      by true true e = absurd (cc)
-      by true false e = (refl, refl)
-      by false b e = absurd (cc)
-
-  pub outcome_as : (k : OpenCall A) (o : ℕ) → call_at c s ≡ Some k → OfOpen v s (λ u. o ≡ (front_of v u).outcome) → o ≡ k.machine.progress.outcome
-  outcome_as k o is each = each (underway k) (open_is k is) ∙ sym (ap (λ (p : Progress). p.outcome) (progress_is k is))
 
 module _ {A : Type 0} where
   -- more room changes nothing that stands for the machine
@@ -132,3 +129,31 @@ module _ {A : Type 0} where
 
   pub roomy_view : (c : Inside A) (v : CoreView) → view_of c ≡ v → (log : Log) (changed : ChangedSets) → log.records ≡ c.log.records → view_of (record c { log = log; changed = changed }) ≡ v
   roomy_view c v same log changed e = ap (λ r. record (view_of c) { log = r }) e ∙ same
+
+  -- nor do other rooms for notes
+  pub other_rooms : (c : Inside A) → IsCore c → (rooms : Vec (Option (Vec (Note A) A)) A) → IsCore (record c { rooms = rooms })
+  other_rooms c ok rooms = record {
+    world = ok.world;
+    run = ok.run;
+    stands = record {
+      catalog = ok.stands.catalog;
+      opening = ok.stands.opening;
+      log = ok.stands.log;
+      calls = ok.stands.calls;
+      versions = ok.stands.versions;
+      collecting = ok.stands.collecting;
+      frozen = ok.stands.frozen;
+      locks = ok.stands.locks;
+      phase = ok.stands.phase;
+      checkpoint = ok.stands.checkpoint;
+    };
+    lawful = ok.lawful;
+    opens = ok.opens;
+    small = ok.small;
+    sessions = ok.sessions;
+    tables = ok.tables;
+    starts = ok.starts;
+    numbers = ok.numbers;
+    last = ok.last;
+    aside = ok.aside;
+  }

@@ -175,6 +175,22 @@ pub record_written : (start : Phase) (x : Cell) (slots : Slots) (i : ℕ) → ch
 record_written start x slots i = changed_twice (edited (copied start)) (with_live x) slots i
 
 -- keeping one write
+not_prepared : (start phase : Phase) (v : KeyVersions) → (start ≡ Prepare → ⊥) → kept start phase v ≡ v
+not_prepared Prepare phase v other = absurd (other refl)
+not_prepared Rest phase v other = refl
+not_prepared Resolve phase v other = refl
+not_prepared Capture phase v other = refl
+not_prepared Complete phase v other = refl
+
+not_prepared_key : (start phase : Phase) (o : Option Cell) (v : Option KeyVersions) → (start ≡ Prepare → ⊥) → kept_key start phase o v ≡ v
+not_prepared_key start phase None v other = refl
+not_prepared_key start phase (Some x) None other = refl
+not_prepared_key start phase (Some x) (Some v) other = ap (λ (v : KeyVersions). Some v) (not_prepared start phase v other)
+
+-- a call that began in another phase than prepare keeps its writes as they are
+pub kept_as_is : (start phase : Phase) (ns : List Noted) (vs : VersionsByKey) (q : Bytes) → (start ≡ Prepare → ⊥) → vs q ≡ all_kept start phase ns vs q
+kept_as_is start phase ns vs q other = sym (not_prepared_key start phase (first_noted ns q) (vs q) other)
+
 kept_mapped : (start phase : Phase) (o : Option KeyVersions) → option_map (kept start phase) o ≡ kept_key start phase (Some None) o
 kept_mapped start phase None = refl
 kept_mapped start phase (Some v) = refl

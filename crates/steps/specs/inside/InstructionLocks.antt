@@ -1,12 +1,20 @@
 -- The lock that an instruction takes, and when it can't have it.
-use Rattle.std.specs.Prelude.{◌≡◌, ℕ, Bool, true, false, Option, Some, None, Ok, Err}
+use Rattle.std.specs.Prelude.{◌≡◌, ℕ, Bool, true, false, if◌then◌else◌, length, Option, Some, None, Ok, Err, IfOk, OnOk, OnErr}
 use Rattle.std.specs.declared.result.Result.{Result}
 use Rattle.procedure.specs.Bytes.{Bytes}
 use Rattle.procedure.specs.Needs.{Touch, Nothing, Reads, Writes}
+use Rattle.procedure.specs.Runs.{is_nil}
+use Rattle.procedure.specs.declared.limits.TheConstants.{SESSIONS}
+use Rattle.phase.specs.declared.phases.Phase.{Phase}
 use Rattle.locktable.specs.declared.modes.Mode.{Mode}
 use Rattle.locktable.specs.declared.modes.Mode.TheVariants.{Shared, Exclusive}
 use Rattle.locktable.specs.Modes.{stronger}
 use Rattle.locktable.specs.Locks.{Conflicts, Locks, mode_of, with_lock}
+use Rattle.record_store.specs.Stores.{Slots}
+use Rattle.steps.specs.inside.Instructions.{Advances, SameOpen, lacks_place, touch_in}
+use Rattle.steps.specs.declared.calls.OpenCall.{OpenCall}
+use Rattle.steps.specs.declared.step.Stepped.{Stepped}
+use Rattle.steps.specs.declared.step.Stepped.TheVariants.{Ran, Ready}
 use Rattle.steps.specs.declared.errors.StepError.{StepError}
 use Rattle.steps.specs.declared.errors.StepError.TheVariants as refused
 
@@ -55,3 +63,19 @@ AnswersTo done excluded full (Err refused.NoMemory) = (done ≡ false) × (exclu
 abbrev pub short : (full : Bool) → StepError
 short true = refused.TableFull
 short false = refused.NoMemory
+
+module _ {A : Type 0} where
+  -- the next instruction of an open call is executed under its lock, or refused
+  pub record StepsOpen (phase : Phase) (session : ℕ) (s : Slots) (l : Locks) (c : OpenCall A) (t : Slots) (m : Locks) (d : OpenCall A) (r : Result Stepped StepError) : Type 0 where
+    pub ok : OnOk r (Advances phase s c t d)
+    pub granted : OnOk r (m ≡ locked l session (touch_in c.machine))
+    pub ready : IfOk r (λ x. x ≡ (if is_nil d.machine.progress.rest then Ready else Ran))
+    pub err : OnErr r ((t ≡ s) × SameOpen c d)
+    pub unlocked : OnErr r (SameLocks l m × (length m ≡ SESSIONS))
+    pub refusal : AnswersTo (is_nil c.machine.progress.rest) (IsExcluded l session (touch_in c.machine)) (lacks_place s c.machine) r
+
+  -- the same of a place where a call may stand; without one nothing changes
+  abbrev pub StepsIn : Phase → ℕ → Slots → Locks → Option (OpenCall A) → Slots → Locks → Option (OpenCall A) → Result Stepped StepError → Type 0
+  StepsIn phase session s l None t m d r = (t ≡ s) × (m ≡ l) × (d ≡ None) × (r ≡ Err refused.NotActive)
+  StepsIn phase session s l (Some c) t m None r = ⊥
+  StepsIn phase session s l (Some c) t m (Some d) r = StepsOpen phase session s l c t m d r

@@ -2,7 +2,8 @@
 use Rattle.std.specs.Prelude.{◌≡◌, ℕ, Bool, true, false, cond, List, [], ◌∷◌, Option, Some, None, is_some}
 use Rattle.procedure.specs.Bytes.{Bytes, Cell, same}
 use Rattle.phase.specs.declared.phases.Phase.{Phase}
-use Rattle.record_store.specs.Stores.{StoreRecord, Slots, key_at, record_at}
+use Rattle.procedure.specs.Needs.{Touch, Nothing, Reads, Writes}
+use Rattle.record_store.specs.Stores.{Finds, HasKeysOnce, StoreRecord, Slots, key_at, record_at}
 use Rattle.record_store.specs.Versions as stored
 use Rattle.record_store.specs.declared.records.Stable.{Stable}
 use Rattle.record_store.specs.declared.records.Stable.TheVariants.{Empty, Was}
@@ -20,6 +21,17 @@ stored_stable (Some x) = Was x
 pub record KeepsSlots (old new : Slots) : Type 0 where
   pub keys : (slot : ℕ) (key : Bytes) → key_at old slot ≡ Some key → key_at new slot ≡ Some key
   pub aside : (slot : ℕ) → aside_at new slot ≡ true → aside_at old slot ≡ true
+
+-- what a look-up of a key has found: the slot of its record, if it has one; no two slots have the same key
+pub record IsFound (slots : Slots) (key : Bytes) (slot : Option ℕ) : Type 0 where
+  pub finds : Finds slots key slot
+  pub once : HasKeysOnce slots
+
+-- the same of the key of a touch
+abbrev pub IsFoundBy : Slots → Touch → Option ℕ → Type 0
+IsFoundBy slots Nothing slot = slot ≡ None
+IsFoundBy slots (Reads k) slot = IsFound slots k slot
+IsFoundBy slots (Writes k) slot = IsFound slots k slot
 
 -- the record, with another version
 abbrev pub with_version : StoreRecord → KeyVersions → StoreRecord

@@ -6,12 +6,14 @@ use Rattle.calcdb.proofs.command_line.described.Goals as goal
 
 pub returns : goal.returns
 returns c =
-    let named_is : app_of c.about.result ≡ new_app (codes "calcdb") = ap app_of_fields c.about.ensures ∙ c.new.ensures.app in
+    let named_is : app_of c.after_help.result ≡ new_app (codes "calcdb") = ap app_of_fields c.after_help.ensures ∙ ap app_of_fields c.about.ensures ∙ c.new.ensures.app in
     let versioned_is : app_of c.version.result ≡ on_top (λ (s : Shape). record s { has_version = true }) (new_app (codes "calcdb")) =
     ap app_of_fields c.version.ensures ∙ ap (on_top (λ (s : Shape). record s { has_version = true })) named_is in
-    let top : App = on_top (λ (s : Shape). record s { subcommand_required = true; has_version = true }) (new_app (codes "calcdb")) in
-    let top_is : app_of c.subcommand_required-program.result ≡ top =
-    ap app_of_fields c.subcommand_required-program.ensures ∙ ap (on_top (λ (s : Shape). record s { subcommand_required = true })) versioned_is in
+    let wanted_is : app_of c.subcommand_required.result ≡ on_top (λ (s : Shape). record s { subcommand_required = true; has_version = true }) (new_app (codes "calcdb")) =
+    ap app_of_fields c.subcommand_required.ensures ∙ ap (on_top (λ (s : Shape). record s { subcommand_required = true })) versioned_is in
+    let top : App = on_top (λ (s : Shape). record s { subcommand_required = true; arg_required_else_help = true; has_version = true }) (new_app (codes "calcdb")) in
+    let top_is : app_of c.arg_required_else_help-program.result ≡ top =
+    ap app_of_fields c.arg_required_else_help-program.ensures ∙ ap (on_top (λ (s : Shape). record s { arg_required_else_help = true })) wanted_is in
     let run = c.described_run.ensures in
     let load = c.described_load.ensures in
     let merge = c.described_merge.ensures in

@@ -6,6 +6,6 @@ use Rattle.calcdb.proofs.command_line.described_show.Goals as goal
 
 pub returns : goal.returns
 returns c =
-    let named : IsApp c.about.result (new_app (codes "show")) = (ap app_of_fields c.about.ensures ∙ c.new.ensures.app, ap (λ f. f.has_globals) c.about.ensures ∙ c.new.ensures.local) in
+    let named : IsApp c.after_help.result (new_app (codes "show")) = (ap app_of_fields c.after_help.ensures ∙ ap app_of_fields c.about.ensures ∙ c.new.ensures.app, ap (λ f. f.has_globals) c.after_help.ensures ∙ ap (λ f. f.has_globals) c.about.ensures ∙ c.new.ensures.local) in
     let done = IfOk-weaker c.arg.result _ _ (λ r h. argument_added _ _ _ _ _ h c.required.ensures.rule c.required.ensures.local named) c.arg.ensures in
     record { app = IfOk-weaker c.arg.result _ _ (λ r h. h.0) done; local = IfOk-weaker c.arg.result _ _ (λ r h. h.1) done }

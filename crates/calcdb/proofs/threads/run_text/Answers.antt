@@ -1,12 +1,14 @@
-use Rattle.std.proofs.lemmas.Result.{IfErr-weaker, IfOk-weaker}
+use Rattle.std.proofs.lemmas.Result.{IfErr-weaker}
 use Rattle.calcdb.specs.ThreadOutcomes.{EndsInThreads}
 use Rattle.calcdb.specs.Scripts.{thread_script_of}
+use Rattle.calcdb.proofs.ThreadEnds.{ok_with}
 use Rattle.calcdb.proofs.ThreadEndings.{ends_run, ends_script}
 use Rattle.calcdb.proofs.threads.run_text.Goals as goal
 
 pub returns-in-Ok-clause-run : goal.returns-in-Ok-clause-run
 returns-in-Ok-clause-run g c =
-    IfOk-weaker c.run_opened.result _ _ (λ r h. (h.0, record { lawful = c.requires; script = c.in-Ok.script; reads = c.in-Ok.ensures; runs = h.1 }, h.2)) c.run_opened.ensures.ok
+    ok_with c.run_opened.result _ _ _ (λ r h from. (h.0, record { lawful = c.requires; script = c.in-Ok.script; reads = c.in-Ok.ensures; origin = from; runs = h.1 }, h.2))
+    c.run_opened.ensures.ok c.run_opened.ensures.origin
 
 pub returns-in-Ok-clause-fault : goal.returns-in-Ok-clause-fault
 returns-in-Ok-clause-fault g c =

@@ -19,7 +19,7 @@ returns-in_err-write_out-clause-err g c =
     let rs = c.args.records.now in
     let text = log_bytes Two h rs in
     let written : c.as_slice-2.result.now ≡ log_header_bytes Two h =
-    c.as_slice-2.ensures.value ∙ c.in_ok-write_header.ensures ∙ ap (λ (x : Bytes). x ++ log_header_bytes Two h) c.new-buffer.ensures.items in
+    c.as_slice-2.ensures.value ∙ c.in_ok-write_header.ensures ∙ ap (λ (x : Bytes). x ++ log_header_bytes Two h) (c.in_ok-reserve.ensures.items ∙ c.new-buffer.ensures.items) in
     let begun : IsBegun old new (log_header_bytes Two h) = subst (IsBegun old new) written c.in_err-write_out.ensures.err in
     rw p.1 (begun_on old old new text text (log_header_bytes Two h) (records_bytes (first_digest Two h) rs) (nothing_gone old text) refl begun)
 
@@ -32,7 +32,7 @@ returns-clause-err g c =
     let rs = c.args.records.now in
     let text = log_bytes Two h rs in
     let left = records_bytes (first_digest Two h) rs in
-    let header : c.write_header.new.out.items ≡ log_header_bytes Two h = c.in_ok-write_header.ensures ∙ ap (λ (x : Bytes). x ++ log_header_bytes Two h) c.new-buffer.ensures.items in
+    let header : c.write_header.new.out.items ≡ log_header_bytes Two h = c.in_ok-write_header.ensures ∙ ap (λ (x : Bytes). x ++ log_header_bytes Two h) (c.in_ok-reserve.ensures.items ∙ c.new-buffer.ensures.items) in
     let written : c.as_slice-2.result.now ≡ log_header_bytes Two h = c.as_slice-2.ensures.value ∙ header in
     let first : c.digest-digest.result ≡ first_digest Two h = c.digest-digest.ensures ∙ ap sha256 (c.as_slice.ensures.value ∙ header) in
     let appended : Appends old mid (log_header_bytes Two h) = subst (Appends old mid) written c.in_ok-write_out.ensures.ok in

@@ -1,9 +1,7 @@
 use Rattle.std.proofs.Common.{◌≡◌, ◌+◌, ◌++◌, drop, sym, ap, subst}
 use Rattle.std.proofs.lemmas.Result.{err_from_is_err_and}
 use Rattle.procedure.specs.Bytes.{Bytes}
-use Rattle.std.specs.List.{AllByRecursion}
-use Rattle.commitlog.specs.declared.formats.Version.TheVariants.{Two}
-use Rattle.commitlog.specs.LogBytes.{Fits, record_bytes, records_bytes, next_digest}
+use Rattle.commitlog.specs.LogBytes.{record_bytes, records_bytes, next_digest}
 use Rattle.procedure.proofs.WriteProgress.{Gone, more_gone, begun_on, next_item}
 use Rattle.commitlog.proofs.streams.write_out_records.Goals as goal
 
@@ -18,7 +16,7 @@ returns-in_err-digest-clause-err g c =
     let rest = records_bytes (next_digest l.digest r) (drop (l.record-index + 1) rs) in
     let split : left ≡ record_bytes l.digest r ++ rest = ap (records_bytes l.digest) (next_item rs l.record-index r c.loop-record-test.true c.record-item.is) in
     rw p.1 (begun_on (contents c.args.writer.now) (contents l.writer) (contents c.write_out_record.new.writer) (records_bytes c.args.digest rs) left (record_bytes l.digest r) rest
-    l.invariant.gone split c.in_err-digest.ensures.err)
+    l.invariant split c.in_err-digest.ensures.err)
 
 pub loop-record-preserved : goal.loop-record-preserved
 loop-record-preserved g c =
@@ -30,10 +28,6 @@ loop-record-preserved g c =
     let rest = records_bytes (next_digest l.digest r) (drop (l.record-index + 1) rs) in
     let split : left ≡ record_bytes l.digest r ++ rest = ap (records_bytes l.digest) (next_item rs l.record-index r c.loop-record-test.true c.record-item.is) in
     let more = more_gone (contents c.args.writer.now) (contents l.writer) (contents c.write_out_record.new.writer) (records_bytes c.args.digest rs) left (record_bytes l.digest r) rest
-    l.invariant.gone split c.in_ok-digest.ensures.ok in
-    record {
-      gone = subst (λ (d : Bytes). Gone (contents c.args.writer.now) (contents c.write_out_record.new.writer) (records_bytes c.args.digest rs) (records_bytes d (drop (l.record-index + 1) rs)))
-          (sym c.in_ok-digest.ensures.digest) more;
-      fits = λ h. l.invariant.fits
-          (subst (AllByRecursion (Fits Two)) (sym (next_item rs l.record-index r c.loop-record-test.true c.record-item.is)) (c.in_ok-digest.ensures.fits, h));
-    }
+    l.invariant split c.in_ok-digest.ensures.ok in
+    subst (λ (d : Bytes). Gone (contents c.args.writer.now) (contents c.write_out_record.new.writer) (records_bytes c.args.digest rs) (records_bytes d (drop (l.record-index + 1) rs)))
+    (sym c.in_ok-digest.ensures.digest) more

@@ -1,13 +1,8 @@
 use Rattle.std.proofs.Common.{drop}
-use Rattle.std.specs.List.{AllByRecursion}
-use Rattle.commitlog.specs.declared.formats.Version.TheVariants.{Two}
-use Rattle.commitlog.specs.LogBytes.{Fits, records_bytes}
+use Rattle.commitlog.specs.LogBytes.{records_bytes}
 use Rattle.procedure.proofs.WriteProgress.{Gone}
 use Rattle.commitlog.proofs.streams.write_out_records.Given as goal
 
 abbrev pub invariant-loop-record : goal.invariant-loop-record
 invariant-loop-record g l =
-    record {
-      gone : Gone (g.W.Write.contents l.fn.writer) (g.W.Write.contents l.writer) (records_bytes l.fn.digest l.records) (records_bytes l.digest (drop l.record-index l.records));
-      fits : AllByRecursion (Fits Two) (drop l.record-index l.records) → AllByRecursion (Fits Two) l.records;
-    }
+    Gone (g.W.Write.contents l.fn.writer) (g.W.Write.contents l.writer) (records_bytes l.fn.digest l.records) (records_bytes l.digest (drop l.record-index l.records))

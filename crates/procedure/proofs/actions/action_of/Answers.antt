@@ -76,12 +76,12 @@ returns-in-Read g c =
     let rs = c.args.registers.now in
     let found = option_copied c.args.found in
     let r = c.in-Read.register in
-    let key = c.key_of.result in
-    let same = effect-read i args rs found r c.in-Read.key _ key c.in-Read.is c.value_of.ensures c.key_of.ensures in
+    let key = option_copied c.key_bytes.result in
+    let same = effect-read i args rs found r c.in-Read.key _ key c.in-Read.is c.value_of.ensures c.key_bytes.ensures in
     record {
       value = if_ok (λ a. (registers : List Cell) → effect_of a registers None ≡ reading registers r key found) (λ a. effect_of a rs (effect i args rs found).becomes ≡ effect i args rs found)
           (λ a h. stands_for_own a rs _ _ (reading_becomes rs r key found) same (h rs)) c.read_action.result c.read_action.ensures.value;
-      memory = if_refused (copies-read i args rs r c.in-Read.key _ key c.in-Read.is c.value_of.ensures c.key_of.ensures) c.read_action.result c.read_action.ensures.memory;
+      memory = if_refused (copies-read i args rs r c.in-Read.key _ key c.in-Read.is c.value_of.ensures c.key_bytes.ensures) c.read_action.result c.read_action.ensures.memory;
     }
 
 pub returns-in-Put-clause-value : goal.returns-in-Put-clause-value
@@ -90,10 +90,10 @@ returns-in-Put-clause-value g c =
     let args = c.args.args.now in
     let rs = c.args.registers.now in
     let found = option_copied c.args.found in
-    let key = c.key_of-key.result in
+    let key = option_copied c.key_bytes-key.result in
     let value = option_copied c.value_of-in-Put-2.result in
     stands_for c.put_action.result rs (putting rs key value) (effect i args rs found) (c.put_action.ensures rs)
-    (effect-put i args rs found c.in-Put.key c.in-Put.value _ value key c.in-Put.is c.value_of-in-Put.ensures c.key_of-key.ensures c.value_of-in-Put-2.ensures)
+    (effect-put i args rs found c.in-Put.key c.in-Put.value _ value key c.in-Put.is c.value_of-in-Put.ensures c.key_bytes-key.ensures c.value_of-in-Put-2.ensures)
 
 pub returns-in-Insert-clause-value : goal.returns-in-Insert-clause-value
 returns-in-Insert-clause-value g c =
@@ -101,10 +101,10 @@ returns-in-Insert-clause-value g c =
     let args = c.args.args.now in
     let rs = c.args.registers.now in
     let found = option_copied c.args.found in
-    let key = c.key_of-key-in-Insert.result in
+    let key = option_copied c.key_bytes-key-in-Insert.result in
     let value = option_copied c.value_of-in-Insert-2.result in
     stands_for c.insert_action.result rs (inserting rs key value found) (effect i args rs found) (c.insert_action.ensures rs)
-    (effect-insert i args rs found c.in-Insert.key c.in-Insert.value _ value key c.in-Insert.is c.value_of-in-Insert.ensures c.key_of-key-in-Insert.ensures c.value_of-in-Insert-2.ensures)
+    (effect-insert i args rs found c.in-Insert.key c.in-Insert.value _ value key c.in-Insert.is c.value_of-in-Insert.ensures c.key_bytes-key-in-Insert.ensures c.value_of-in-Insert-2.ensures)
 
 pub returns-in-Delete-clause-value : goal.returns-in-Delete-clause-value
 returns-in-Delete-clause-value g c =
@@ -112,9 +112,9 @@ returns-in-Delete-clause-value g c =
     let args = c.args.args.now in
     let rs = c.args.registers.now in
     let found = option_copied c.args.found in
-    let key = c.key_of-in-Delete.result in
+    let key = option_copied c.key_bytes-in-Delete.result in
     stands_for c.delete_action.result rs (deleting rs key found) (effect i args rs found) (c.delete_action.ensures rs)
-    (effect-delete i args rs found c.in-Delete.key _ key c.in-Delete.is c.value_of-in-Delete.ensures c.key_of-in-Delete.ensures)
+    (effect-delete i args rs found c.in-Delete.key _ key c.in-Delete.is c.value_of-in-Delete.ensures c.key_bytes-in-Delete.ensures)
 
 pub returns-in-Add-clause-value : goal.returns-in-Add-clause-value
 returns-in-Add-clause-value g c =

@@ -26,6 +26,7 @@ returns g c =
       locks = c.args.parts.locks;
       changed = c.new-2.result;
       calls = c.args.parts.calls;
+      rooms = c.args.parts.rooms;
       active = c.new-3.result;
       last = c.args.parts.last;
       phase = Rest;

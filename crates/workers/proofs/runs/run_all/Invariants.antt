@@ -1,5 +1,9 @@
 use Rattle.workers.proofs.runs.run_all.Given as goal
 
+-- the procedures and the opening are those of the core
+abbrev pub ghosts-run_in-L-Origin : goal.ghosts-run_in-L-Origin
+ghosts-run_in-L-Origin g a = record { catalog = a.core.catalog; opening = a.core.opening }
+
 -- the ledger is that of the blank
-abbrev pub ghosts-run_in : goal.ghosts-run_in
-ghosts-run_in g a = record { name = a.blank.name; parts = a.blank.parts }
+abbrev pub ghosts-run_in-L-Ledger : goal.ghosts-run_in-L-Ledger
+ghosts-run_in-L-Ledger g a = record { name = a.blank.name; parts = a.blank.parts }

@@ -5,11 +5,11 @@ use Rattle.locktable.proofs.locks.LockTable.release_all.Goals as goal
 
 pub loop-key-smaller : goal.loop-key-smaller
 loop-key-smaller g c =
-    fewer_after c.loop-key.self c.restore.new.self c.args.session c.in-Some.key c.restore.ensures
+    fewer_after c.loop-key.self c.release.new.self c.args.session c.in-Some._key c.in-Some.ensures.released
     (subst (λ n. c.args.session < n) (sym c.in-Some.ensures.sessions) c.requires) c.in-Some.ensures.held
 
 pub loop-key-preserved : goal.loop-key-preserved
 loop-key-preserved g c =
-    ap (λ locks. without_locks locks c.args.session) c.restore.ensures
-    ∙ without_after c.loop-key.self c.args.session c.in-Some.key
+    ap (λ locks. without_locks locks c.args.session) c.in-Some.ensures.released
+    ∙ without_after c.loop-key.self c.args.session c.in-Some._key
     ∙ c.loop-key.invariant

@@ -1,7 +1,9 @@
+use Rattle.std.specs.Prelude.{count_by}
 use Rattle.std.proofs.Common.{◌≡◌, ℕ, ◌+◌, ◌<◌, ◌≤◌, ◌^◌, List, [], ◌∷◌, ◌++◌, length, drop, vec_capacity, option_copied, refl, sym, ap, subst, arith, length-append}
 use Rattle.procedure.specs.Needs.{CopiesValue}
+use Rattle.procedure.specs.Procedures.{is_read}
 use Rattle.procedure.specs.Runs.{Execution, Progress, advanced, next_need}
-use Rattle.procedure.proofs.Steps.{need_here, advanced_past, after_set, after_load, after_pass, after_end}
+use Rattle.procedure.proofs.Steps.{need_here, advanced_past, after_set, after_load, after_pass, after_end, load_is_read, no_reads_past, reads_after, reads_after_read}
 use Rattle.procedure.proofs.Results.{on_err}
 use Rattle.procedure.proofs.machines.Machine.fed.Goals as goal
 
@@ -60,21 +62,19 @@ returns-in-End-clause-ok g c =
     c.as_slice-args.result.now c.as_slice-args.ensures c.as_slice-registers.result.now c.as_slice-registers.ensures.value c.in_ok-register.field-0 c.in_ok-register.ensures.value
     c.in-End.code c.in-End.is c.len-end.result c.len-end.ensures))
 
-module _ (place n r cap : ℕ) (here : place < n) (room : r + n ≤ cap + place) where
-  next_within : place + 1 ≤ n
-  next_within = omega arith
+within : (place n : ℕ) → place < n → place + 1 ≤ n
+within place n here = omega arith
 
-  next_room : r + n ≤ cap + (place + 1)
-  next_room = omega arith
+-- the room after an instruction, by how many reads are left
+module _ (r left after cap : ℕ) (room : r + left ≤ cap) where
+  next_room : after ≤ left → r + after ≤ cap
+  next_room less = omega arith
 
-  room_left : (len : ℕ) → len ≡ r → len < cap
-  room_left len same = omega arith
+  room_left : (len : ℕ) → len ≡ r → left ≡ 1 + after → len < cap
+  room_left len same read = omega arith
 
-  end_room : (end : ℕ) → end ≡ n → r + n ≤ cap + end
-  end_room end same = omega arith
-
-  reply_room : {X : Type 0} (old new : List X) (x : X) (cap' : ℕ) → length old ≡ r → new ≡ old ++ x ∷ [] → cap' ≡ cap → length new + n ≤ cap' + (place + 1)
-  reply_room old new x cap' is pushed same = omega (arith, ap length pushed, length-append old (x ∷ []))
+  reply_room : {X : Type 0} (old new : List X) (x : X) (cap' : ℕ) → length old ≡ r → new ≡ old ++ x ∷ [] → cap' ≡ cap → left ≡ 1 + after → length new + after ≤ cap'
+  reply_room old new x cap' is pushed same read = omega (arith, ap length pushed, length-append old (x ∷ []))
 
 next_fits : (place n end : ℕ) → place < n → end ≡ n → end < 2 ^ 64 → place + 1 < 2 ^ 64
 next_fits place n end here same fits = omega arith
@@ -94,46 +94,47 @@ overflow_add-self-in-Pass g c = record { fits = next_fits c.self.inside.place (l
 pub push_reserved-requires : goal.push_reserved-requires
 push_reserved-requires g c =
     let m = c.self.inside in
-    room_left m.place (length m.code) (length m.replies.items) (vec_capacity m.replies) (c.in-Some.ensures.within.0 refl) c.self.invariant.room m.replies.len m.replies.ok.0
+    let read = load_is_read c.as_slice-registers.result.now c.in-Some.instruction.now c.as_slice-args.result.now (option_copied c.args.found) c.in_ok-register.field-0
+    c.in-Load.register c.in-Load.cell c.in-Load.reply c.in-Load.is c.in_ok-register.ensures.value in
+    room_left (length m.replies.items) (count_by is_read (drop m.place m.code)) (count_by is_read (drop (m.place + 1) m.code)) (vec_capacity m.replies) c.self.invariant.room m.replies.len m.replies.ok.0
+    (reads_after_read m.code m.place c.in-Some.instruction.now c.in-Some.ensures.value read)
 
 pub invariant_of-self : goal.invariant_of-self
 invariant_of-self g c =
     let m = c.self.inside in
-    let here = c.in-Some.ensures.within.0 refl in
-    let room = c.self.invariant.room in
     record {
-      within = next_within m.place (length m.code) (length m.replies.items) (vec_capacity m.replies) here room;
-      room = next_room m.place (length m.code) (length m.replies.items) (vec_capacity m.replies) here room;
+      within = within m.place (length m.code) (c.in-Some.ensures.within.0 refl);
+      room = next_room (length m.replies.items) (count_by is_read (drop m.place m.code)) (count_by is_read (drop (m.place + 1) m.code)) (vec_capacity m.replies) c.self.invariant.room
+          (reads_after m.code m.place c.in-Some.instruction.now c.in-Some.ensures.value);
     }
 
 pub invariant_of-self-in-Load : goal.invariant_of-self-in-Load
 invariant_of-self-in-Load g c =
     let m = c.self.inside in
     let after = c.push_reserved.new.self in
-    let here = c.in-Some.ensures.within.0 refl in
-    let room = c.self.invariant.room in
+    let read = load_is_read c.as_slice-registers.result.now c.in-Some.instruction.now c.as_slice-args.result.now (option_copied c.args.found) c.in_ok-register.field-0
+    c.in-Load.register c.in-Load.cell c.in-Load.reply c.in-Load.is c.in_ok-register.ensures.value in
     record {
-      within = next_within m.place (length m.code) (length m.replies.items) (vec_capacity m.replies) here room;
-      room = reply_room m.place (length m.code) (length m.replies.items) (vec_capacity m.replies) here room m.replies.items after.items c.in-Load.reply (vec_capacity after)
-          (λ i. length m.replies.items) c.push_reserved.ensures.items
-          c.push_reserved.ensures.capacity;
+      within = within m.place (length m.code) (c.in-Some.ensures.within.0 refl);
+      room = reply_room (length m.replies.items) (count_by is_read (drop m.place m.code)) (count_by is_read (drop (m.place + 1) m.code)) (vec_capacity m.replies) c.self.invariant.room
+          m.replies.items after.items c.in-Load.reply (vec_capacity after) refl c.push_reserved.ensures.items c.push_reserved.ensures.capacity
+          (reads_after_read m.code m.place c.in-Some.instruction.now c.in-Some.ensures.value read);
     }
 
 pub invariant_of-self-in-Pass : goal.invariant_of-self-in-Pass
 invariant_of-self-in-Pass g c =
     let m = c.self.inside in
-    let here = c.in-Some.ensures.within.0 refl in
-    let room = c.self.invariant.room in
     record {
-      within = next_within m.place (length m.code) (length m.replies.items) (vec_capacity m.replies) here room;
-      room = next_room m.place (length m.code) (length m.replies.items) (vec_capacity m.replies) here room;
+      within = within m.place (length m.code) (c.in-Some.ensures.within.0 refl);
+      room = next_room (length m.replies.items) (count_by is_read (drop m.place m.code)) (count_by is_read (drop (m.place + 1) m.code)) (vec_capacity m.replies) c.self.invariant.room
+          (reads_after m.code m.place c.in-Some.instruction.now c.in-Some.ensures.value);
     }
 
 pub invariant_of-self-in-End : goal.invariant_of-self-in-End
 invariant_of-self-in-End g c =
     let m = c.self.inside in
-    let here = c.in-Some.ensures.within.0 refl in
     record {
       within = end_within c.len-end.result (length m.code) c.len-end.ensures;
-      room = end_room m.place (length m.code) (length m.replies.items) (vec_capacity m.replies) here c.self.invariant.room c.len-end.result c.len-end.ensures;
+      room = next_room (length m.replies.items) (count_by is_read (drop m.place m.code)) (count_by is_read (drop c.len-end.result m.code)) (vec_capacity m.replies) c.self.invariant.room
+          (omega (arith, no_reads_past m.code c.len-end.result c.len-end.ensures));
     }

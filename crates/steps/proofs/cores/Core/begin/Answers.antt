@@ -5,6 +5,7 @@ use Rattle.steps.specs.CoreViews.{open_at}
 use Rattle.steps.proofs.views.CoreState.{sessions_seen}
 use Rattle.steps.proofs.sessions.AcceptedCalls.{may_begin}
 use Rattle.steps.proofs.sessions.BegunCall.{begun_core, begun_view}
+use Rattle.steps.proofs.sessions.CallProgress.{other_rooms}
 use Rattle.steps.proofs.cores.Core.begin.Goals as goal
 
 pub set-requires : goal.set-requires
@@ -21,19 +22,21 @@ pub invariant_of-self : goal.invariant_of-self
 invariant_of-self g c =
     let may = may_begin c.args.self.now c.args.session c.args.number c.args.procedure (map (λ b. b.items) c.args.args.items) c.in_ok-call.ensures.refusal in
     let at : c.from-index.result ≡ c.args.session = c.from-index.ensures in
-    begun_core c.self.inside c.self.invariant c.args.self.now c.self.view_is c.args.session c.args.number c.args.procedure (map (λ b. b.items) c.args.args.items) c.in_ok-call.call
-    (with_item c.self.inside.calls c.from-index.result (Some c.in_ok-call.call)) c.set.new.self
-    may c.in_ok-call.ensures.call c.in_ok-call.ensures.progress c.in_ok-call.ensures.notes
-    (ap (λ i. slice_set c.self.inside.calls.items i (Some c.in_ok-call.call)) at)
-    (c.set.ensures ∙ ap (λ i. slice_set c.self.inside.active i (Some c.self.inside.phase)) at)
+    other_rooms _
+    (begun_core c.self.inside c.self.invariant c.args.self.now c.self.view_is c.args.session c.args.number c.args.procedure (map (λ b. b.items) c.args.args.items) (record c.in_ok-call.call { notes = c.begin_notes.new.notes })
+    (with_item c.self.inside.calls c.from-index.result (Some (record c.in_ok-call.call { notes = c.begin_notes.new.notes }))) c.set.new.self
+    may c.in_ok-call.ensures.call c.in_ok-call.ensures.progress c.begin_notes.ensures
+    (ap (λ i. slice_set c.self.inside.calls.items i (Some (record c.in_ok-call.call { notes = c.begin_notes.new.notes }))) at)
+    (c.set.ensures ∙ ap (λ i. slice_set c.self.inside.active i (Some c.self.inside.phase)) at))
+    c.begin_notes.new.rooms
 
 pub returns-clause-begun : goal.returns-clause-begun
 returns-clause-begun g c =
     let at : c.from-index.result ≡ c.args.session = c.from-index.ensures in
-    begun_view c.self.inside c.self.invariant c.args.self.now c.self.view_is c.args.session c.args.number c.args.procedure (map (λ b. b.items) c.args.args.items) c.in_ok-call.call
-    (with_item c.self.inside.calls c.from-index.result (Some c.in_ok-call.call)) c.set.new.self
+    begun_view c.self.inside c.self.invariant c.args.self.now c.self.view_is c.args.session c.args.number c.args.procedure (map (λ b. b.items) c.args.args.items) (record c.in_ok-call.call { notes = c.begin_notes.new.notes })
+    (with_item c.self.inside.calls c.from-index.result (Some (record c.in_ok-call.call { notes = c.begin_notes.new.notes }))) c.set.new.self
     c.in_ok-call.ensures.call
-    (ap (λ i. slice_set c.self.inside.calls.items i (Some c.in_ok-call.call)) at)
+    (ap (λ i. slice_set c.self.inside.calls.items i (Some (record c.in_ok-call.call { notes = c.begin_notes.new.notes }))) at)
 
 pub returns-clause-open : goal.returns-clause-open
 returns-clause-open g c =

@@ -1,111 +1,142 @@
-use Rattle.std.proofs.Common.{◌≡◌, ◌<◌, cond, ◌||◌, List, [], ◌∷◌, ◌++◌, Option, Some, None, Vec, is_some, map, inl, refl, sym, ap, ◌∙◌, subst, length, slice_set, true≢false}
+use Rattle.std.proofs.Common.{rules, ◌≡◌, ◌<◌, cond, ◌||◌, List, [], ◌∷◌, ◌++◌, Option, Some, None, is_some, map, inl, inr, refl, slice_index_or, ℕ, sym, ap, ◌∙◌, subst, length, slice_set, true≢false}
 use Rattle.std.specs.Prelude.{◌==◌}
 use Rattle.std.specs.Vec.{with_item}
-use Rattle.std.proofs.lemmas.Bool.{eq-eqb}
 use Rattle.procedure.specs.Bytes.{Bytes}
+use Rattle.procedure.specs.Runs.{is_nil}
 use Rattle.procedure.specs.declared.outcomes.TheConstants.{COMMITTED}
 use Rattle.commitlog.specs.Records.{Record, Call}
 use Rattle.commitlog.specs.declared.limits.TheConstants.{LOG_RECORDS}
 use Rattle.locktable.specs.Locks.{without_locks}
 use Rattle.record_store.specs.ChangedSets.{KeySet, has}
-use Rattle.steps.specs.inside.CoreFields.{IsCore, call_at, view_of}
+use Rattle.steps.specs.inside.CoreFields.{call_at}
 use Rattle.steps.specs.CoreViews.{CoreView}
 use Rattle.steps.specs.inside.RecordEdits.{first_noted, noted_of}
+use Rattle.steps.specs.Refusals.{Answers}
 use Rattle.steps.specs.declared.calls.OpenCall.{OpenCall}
+use Rattle.steps.specs.declared.cores.Core.TheInside.{Inside}
+use Rattle.steps.specs.declared.errors.FinishError.TheVariants as refused
+use Rattle.steps.proofs.machine.OpenCalls.{same_Some}
 use Rattle.steps.proofs.sessions.AnsweredCall.{finish_core, finish_view, in_range}
 use Rattle.steps.proofs.sessions.EndedCall.{within}
-use Rattle.steps.proofs.sessions.CallProgress.{not_active, outcome_as, ready, roomy_core, roomy_view}
+use Rattle.steps.proofs.sessions.CallProgress.{not_active, other_rooms, outcome_is, ready, refusal_is, replies_are, roomy_core, same_test}
 use Rattle.steps.proofs.cores.Core.finish.Goals as goal
 
-pub end_call-requires-clause-range : goal.end_call-requires-clause-range
-end_call-requires-clause-range g c =
-    let is : call_at c.self.inside c.args.session ≡ Some c.in-Some.call = ap (call_at c.self.inside) (sym c.from-index.ensures) ∙ sym c.in-Some.ensures.value in
-    let outcome = outcome_as c.self.inside c.self.invariant c.args.self.now c.self.view_is c.args.session c.in-Some.call c.in_ok-outcome.outcome is c.in_ok-outcome.ensures.outcome in
-    in_range c.self.inside c.self.invariant c.args.session c.in-Some.call is c.in_ok-outcome.outcome outcome
+-- the call that was looked up, as it stands in the core
+held_at :
+    {A : Type 0} (c : Inside A) (k : OpenCall A) {s i : ℕ} {l : List (Option (OpenCall A))} → i ≡ s → l ≡ c.calls.items → Some k ≡ slice_index_or l i None → call_at c s ≡ Some k
+held_at c k {i = i} at same found = ap (call_at c) (sym at) ∙ sym (found ∙ ap (λ l. slice_index_or l i None) same)
+
+-- the call that was looked up is the one that is taken
+same_call :
+    {A : Type 0} (k d : OpenCall A) (i : ℕ) {l m : List (Option (OpenCall A))} → Some k ≡ slice_index_or l i None → l ≡ m → Some d ≡ slice_index_or m i None → k ≡ d
+same_call k d i found same taken = same_Some (found ∙ ap (λ l. slice_index_or l i None) same ∙ sym taken)
+
+pub end_call-notes-requires-clause-range : goal.end_call-notes-requires-clause-range
+end_call-notes-requires-clause-range g c =
+    let is : call_at c.self.inside c.args.session ≡ Some c.in-Some-taken.call = ap (call_at c.self.inside) (sym c.from-index.ensures) ∙ sym c.in-Some-taken.ensures.value in
+    let one = same_call c.in-Some.call.now c.in-Some-taken.call c.from-index.result c.in-Some.ensures c.as_slice.ensures.value c.in-Some-taken.ensures.value in
+    let outcome = c.in_ok-outcome.ensures.outcome ∙ ap (λ (k : OpenCall g.row.A.Denot). k.machine.progress.outcome) one in
+    in_range c.self.inside c.self.invariant c.args.session c.in-Some-taken.call is c.in_ok-outcome.field-0.outcome outcome
 
 pub invariant_of-self : goal.invariant_of-self
 invariant_of-self g c =
     roomy_core c.self.inside c.self.invariant c.make_room.new.log c.make_room.new.changed c.make_room.ensures.records c.make_room.ensures.collecting c.make_room.ensures.frozen
 
-pub end_call-requires-clause-not_full : goal.end_call-requires-clause-not_full
-end_call-requires-clause-not_full g c =
-    let is : call_at c.self.inside c.args.session ≡ Some c.in-Some.call = ap (call_at c.self.inside) (sym c.from-index.ensures) ∙ sym c.in-Some.ensures.value in
-    let done = ready c.self.inside c.self.invariant c.args.self.now c.self.view_is c.args.session c.in-Some.call is c.in_ok-outcome.ensures.refusal in
-    λ e. true≢false (sym (eq-eqb (length c.args.self.now.log) LOG_RECORDS (ap (λ (v : CoreView). length v.log) (sym c.self.view_is) ∙ ap length (sym c.make_room.ensures.records) ∙ e)) ∙ done.1)
-
 pub release_all-requires : goal.release_all-requires
 release_all-requires g c =
-    let lt : c.from-index.result < length c.self.inside.calls.items = within c.self.inside c.self.invariant c.from-index.result c.in-Some.call (sym c.in-Some.ensures.value) in
+    let lt : c.from-index.result < length c.self.inside.calls.items = within c.self.inside c.self.invariant c.from-index.result c.in-Some-taken.call (sym c.in-Some-taken.ensures.value) in
     subst (λ n. c.from-index.result < n) c.self.invariant.sessions lt
 
 pub clear-requires : goal.clear-requires
 clear-requires g c =
-    let lt : c.from-index.result < length c.self.inside.calls.items = within c.self.inside c.self.invariant c.from-index.result c.in-Some.call (sym c.in-Some.ensures.value) in
+    let lt : c.from-index.result < length c.self.inside.calls.items = within c.self.inside c.self.invariant c.from-index.result c.in-Some-taken.call (sym c.in-Some-taken.ensures.value) in
     subst (λ n. c.from-index.result < n) c.self.invariant.sessions lt
 
 pub index_mut-requires : goal.index_mut-requires
 index_mut-requires g c =
-    let lt : c.from-index.result < length c.self.inside.calls.items = within c.self.inside c.self.invariant c.from-index.result c.in-Some.call (sym c.in-Some.ensures.value) in
+    let lt : c.from-index.result < length c.self.inside.calls.items = within c.self.inside c.self.invariant c.from-index.result c.in-Some-taken.call (sym c.in-Some-taken.ensures.value) in
     subst (λ n. c.from-index.result < n) (c.self.invariant.sessions ∙ sym (c.self.inside.last.ok.0 ∙ c.self.invariant.numbers)) lt
 
-pub invariant_of-self-in-Some : goal.invariant_of-self-in-Some
-invariant_of-self-in-Some g c =
-    let is : call_at c.self.inside c.args.session ≡ Some c.in-Some.call = ap (call_at c.self.inside) (sym c.from-index.ensures) ∙ sym c.in-Some.ensures.value in
-    let outcome = outcome_as c.self.inside c.self.invariant c.args.self.now c.self.view_is c.args.session c.in-Some.call c.in_ok-outcome.outcome is c.in_ok-outcome.ensures.outcome in
-    let done = ready c.self.inside c.self.invariant c.args.self.now c.self.view_is c.args.session c.in-Some.call is c.in_ok-outcome.ensures.refusal in
-    let log_is = c.end_call.ensures.log ∙ ap (λ (l : List Record). l ++ Call c.args.session c.in-Some.call.number c.in-Some.call.procedure c.in-Some.call.machine.args c.in_ok-outcome.outcome
-    c.in-Some.call.machine.progress.replies ∷ []) c.make_room.ensures.records in
-    let calls_are = c.in-Some.ensures.some ∙ ap (λ i. slice_set c.self.inside.calls.items i None) c.from-index.ensures in
-    let collecting = λ (q : Bytes). c.end_call.ensures.collecting q ∙ ap (λ (k : KeySet). cond (c.in_ok-outcome.outcome == COMMITTED)
-    (is_some (first_noted (map noted_of c.in-Some.call.notes.items) q) || has k q) (has k q)) c.make_room.ensures.collecting in
-    let frozen = c.end_call.ensures.frozen ∙ c.make_room.ensures.frozen in
+pub invariant_of-self-in-Some-taken : goal.invariant_of-self-in-Some-taken
+invariant_of-self-in-Some-taken g c =
+    let is : call_at c.self.inside c.args.session ≡ Some c.in-Some-taken.call = ap (call_at c.self.inside) (sym c.from-index.ensures) ∙ sym c.in-Some-taken.ensures.value in
+    let one = same_call c.in-Some.call.now c.in-Some-taken.call c.from-index.result c.in-Some.ensures c.as_slice.ensures.value c.in-Some-taken.ensures.value in
+    let outcome = c.in_ok-outcome.ensures.outcome ∙ ap (λ (k : OpenCall g.row.A.Denot). k.machine.progress.outcome) one in
+    let done = ready c.in-Some.call.now.machine.progress c.is_full.result c.in_ok-outcome.ensures.refusal in
+    let ends = ap (λ (k : OpenCall g.row.A.Denot). is_nil k.machine.progress.rest) (sym one) ∙ done.0 in
+    let log_is = c.end_call-notes.ensures.log ∙ ap (λ (l : List Record). l ++ Call c.args.session c.in-Some-taken.call.number c.in-Some-taken.call.procedure c.in-Some-taken.call.machine.args c.in_ok-outcome.field-0.outcome
+    c.in-Some-taken.call.machine.progress.replies ∷ []) c.make_room.ensures.records in
+    let calls_are = c.in-Some-taken.ensures.some ∙ ap (λ i. slice_set c.self.inside.calls.items i None) c.from-index.ensures in
+    let collecting = λ (q : Bytes). c.end_call-notes.ensures.collecting q ∙ ap (λ (k : KeySet). cond (c.in_ok-outcome.field-0.outcome == COMMITTED)
+    (is_some (first_noted (map noted_of c.in-Some-taken.call.notes.items) q) || has k q) (has k q)) c.make_room.ensures.collecting in
+    let frozen = c.end_call-notes.ensures.frozen ∙ c.make_room.ensures.frozen in
     let locks_are = c.release_all.ensures ∙ ap (without_locks c.self.inside.locks) c.from-index.ensures in
     let starts = c.clear.ensures ∙ ap (λ i. slice_set c.self.inside.active i None) c.from-index.ensures in
-    let last_is = ap (λ i. slice_set c.self.inside.last.items i (Some c.in-Some.call.number)) c.from-index.ensures in
-    let last = with_item c.self.inside.last c.from-index.result (Some c.in-Some.call.number) in
-    finish_core c.self.inside c.self.invariant c.args.session c.in-Some.call is c.end_call.new.log c.end_call.new.store c.release_all.new.self c.end_call.new.changed c.taken.new.calls c.clear.new.self
-    last c.after_release-self-inside.result c.in_ok-outcome.outcome outcome done.0 log_is calls_are c.end_call.ensures.versions collecting frozen locks_are starts last_is c.end_call.ensures.most
-    c.end_call.ensures.keys c.after_release-self-inside.ensures
+    let last_is = ap (λ i. slice_set c.self.inside.last.items i (Some c.in-Some-taken.call.number)) c.from-index.ensures in
+    let last = with_item c.self.inside.last c.from-index.result (Some c.in-Some-taken.call.number) in
+    other_rooms _
+    (finish_core c.self.inside c.self.invariant c.args.session c.in-Some-taken.call is c.end_call-notes.new.log c.end_call-notes.new.store c.release_all.new.self c.end_call-notes.new.changed c.taken.new.kept c.clear.new.self
+    last c.after_release-self-inside.result c.in_ok-outcome.field-0.outcome outcome ends log_is calls_are c.end_call-notes.ensures.versions collecting frozen locks_are starts last_is c.end_call-notes.ensures.most
+    c.end_call-notes.ensures.keys c.after_release-self-inside.ensures) c.keep_room.new.rooms
 
-pub invariant_of-self-in-None-1 : goal.invariant_of-self-in-None-1
-invariant_of-self-in-None-1 g c =
-    subst (λ (calls : Vec (Option (OpenCall g.row.A.Denot)) g.row.A.Denot). IsCore (record c.self.inside { log = c.make_room.new.log; changed = c.make_room.new.changed; calls = calls }))
-    (sym (c.in-None.ensures.none refl))
-    (roomy_core c.self.inside c.self.invariant c.make_room.new.log c.make_room.new.changed c.make_room.ensures.records c.make_room.ensures.collecting c.make_room.ensures.frozen)
-
-pub returns-in-Some-clause-finished : goal.returns-in-Some-clause-finished
-returns-in-Some-clause-finished g c =
-    let is : call_at c.self.inside c.args.session ≡ Some c.in-Some.call = ap (call_at c.self.inside) (sym c.from-index.ensures) ∙ sym c.in-Some.ensures.value in
-    let outcome = outcome_as c.self.inside c.self.invariant c.args.self.now c.self.view_is c.args.session c.in-Some.call c.in_ok-outcome.outcome is c.in_ok-outcome.ensures.outcome in
-    let done = ready c.self.inside c.self.invariant c.args.self.now c.self.view_is c.args.session c.in-Some.call is c.in_ok-outcome.ensures.refusal in
-    let log_is = c.end_call.ensures.log ∙ ap (λ (l : List Record). l ++ Call c.args.session c.in-Some.call.number c.in-Some.call.procedure c.in-Some.call.machine.args c.in_ok-outcome.outcome
-    c.in-Some.call.machine.progress.replies ∷ []) c.make_room.ensures.records in
-    let calls_are = c.in-Some.ensures.some ∙ ap (λ i. slice_set c.self.inside.calls.items i None) c.from-index.ensures in
-    let collecting = λ (q : Bytes). c.end_call.ensures.collecting q ∙ ap (λ (k : KeySet). cond (c.in_ok-outcome.outcome == COMMITTED)
-    (is_some (first_noted (map noted_of c.in-Some.call.notes.items) q) || has k q) (has k q)) c.make_room.ensures.collecting in
-    let frozen = c.end_call.ensures.frozen ∙ c.make_room.ensures.frozen in
+pub returns-in-Some-taken-clause-finished : goal.returns-in-Some-taken-clause-finished
+returns-in-Some-taken-clause-finished g c =
+    let is : call_at c.self.inside c.args.session ≡ Some c.in-Some-taken.call = ap (call_at c.self.inside) (sym c.from-index.ensures) ∙ sym c.in-Some-taken.ensures.value in
+    let one = same_call c.in-Some.call.now c.in-Some-taken.call c.from-index.result c.in-Some.ensures c.as_slice.ensures.value c.in-Some-taken.ensures.value in
+    let outcome = c.in_ok-outcome.ensures.outcome ∙ ap (λ (k : OpenCall g.row.A.Denot). k.machine.progress.outcome) one in
+    let done = ready c.in-Some.call.now.machine.progress c.is_full.result c.in_ok-outcome.ensures.refusal in
+    let ends = ap (λ (k : OpenCall g.row.A.Denot). is_nil k.machine.progress.rest) (sym one) ∙ done.0 in
+    let log_is = c.end_call-notes.ensures.log ∙ ap (λ (l : List Record). l ++ Call c.args.session c.in-Some-taken.call.number c.in-Some-taken.call.procedure c.in-Some-taken.call.machine.args c.in_ok-outcome.field-0.outcome
+    c.in-Some-taken.call.machine.progress.replies ∷ []) c.make_room.ensures.records in
+    let calls_are = c.in-Some-taken.ensures.some ∙ ap (λ i. slice_set c.self.inside.calls.items i None) c.from-index.ensures in
+    let collecting = λ (q : Bytes). c.end_call-notes.ensures.collecting q ∙ ap (λ (k : KeySet). cond (c.in_ok-outcome.field-0.outcome == COMMITTED)
+    (is_some (first_noted (map noted_of c.in-Some-taken.call.notes.items) q) || has k q) (has k q)) c.make_room.ensures.collecting in
+    let frozen = c.end_call-notes.ensures.frozen ∙ c.make_room.ensures.frozen in
     let locks_are = c.release_all.ensures ∙ ap (without_locks c.self.inside.locks) c.from-index.ensures in
     let starts = c.clear.ensures ∙ ap (λ i. slice_set c.self.inside.active i None) c.from-index.ensures in
-    let last_is = ap (λ i. slice_set c.self.inside.last.items i (Some c.in-Some.call.number)) c.from-index.ensures in
-    let last = with_item c.self.inside.last c.from-index.result (Some c.in-Some.call.number) in
-    finish_view c.self.inside c.self.invariant c.args.session c.in-Some.call is c.end_call.new.log c.end_call.new.store c.release_all.new.self c.end_call.new.changed c.taken.new.calls c.clear.new.self
-    last c.after_release-self-inside.result c.in_ok-outcome.outcome outcome done.0 log_is calls_are c.end_call.ensures.versions collecting frozen locks_are starts last_is c.end_call.ensures.most
-    c.end_call.ensures.keys c.after_release-self-inside.ensures c.end_call.ensures.slots c.end_call.ensures.same c.args.self.now c.self.view_is
+    let last_is = ap (λ i. slice_set c.self.inside.last.items i (Some c.in-Some-taken.call.number)) c.from-index.ensures in
+    let last = with_item c.self.inside.last c.from-index.result (Some c.in-Some-taken.call.number) in
+    finish_view c.self.inside c.self.invariant c.args.session c.in-Some-taken.call is c.end_call-notes.new.log c.end_call-notes.new.store c.release_all.new.self c.end_call-notes.new.changed c.taken.new.kept c.clear.new.self
+    last c.after_release-self-inside.result c.in_ok-outcome.field-0.outcome outcome ends log_is calls_are c.end_call-notes.ensures.versions collecting frozen locks_are starts last_is c.end_call-notes.ensures.most
+    c.end_call-notes.ensures.keys c.after_release-self-inside.ensures c.end_call-notes.ensures.slots c.end_call-notes.ensures.same c.args.self.now c.self.view_is
 
-pub returns-in-Some-clause-answer : goal.returns-in-Some-clause-answer
-returns-in-Some-clause-answer g c =
+pub returns-in_default-clause-refusal : goal.returns-in_default-clause-refusal
+returns-in_default-clause-refusal g c =
+    let none : call_at c.self.inside c.args.session ≡ None = ap (call_at c.self.inside) (sym c.from-index.ensures)
+    ∙ sym (c.in_default.ensures ∙ ap (λ (l : List (Option (OpenCall g.row.A.Denot))). slice_index_or l c.from-index.result None) c.as_slice.ensures.value) in
+    inl (not_active c.self.inside c.self.invariant c.args.self.now c.self.view_is c.args.session none)
+
+pub returns-in_err-outcome-clause-refusal : goal.returns-in_err-outcome-clause-refusal
+returns-in_err-outcome-clause-refusal g c =
+    let is : call_at c.self.inside c.args.session ≡ Some c.in-Some.call.now = held_at c.self.inside c.in-Some.call.now c.from-index.ensures c.as_slice.ensures.value c.in-Some.ensures in
+    let full = same_test c.is_full.result (length c.args.self.now.log) LOG_RECORDS (λ e. ap (λ (v : CoreView). length v.log) (sym c.self.view_is) ∙ c.is_full.ensures.value.0 e)
+    (λ e. c.is_full.ensures.value.1 (ap (λ (v : CoreView). length v.log) c.self.view_is ∙ e)) in
+    subst (λ o. Answers o refused.NoMemory c.from_residual.result) (sym (refusal_is c.self.inside c.self.invariant c.args.self.now c.self.view_is c.args.session c.in-Some.call.now c.is_full.result is full)) (search rules)
+
+pub returns-in-Err-clause-refusal : goal.returns-in-Err-clause-refusal
+returns-in-Err-clause-refusal g c =
+    let is : call_at c.self.inside c.args.session ≡ Some c.in-Some.call.now = held_at c.self.inside c.in-Some.call.now c.from-index.ensures c.as_slice.ensures.value c.in-Some.ensures in
+    let full = same_test c.is_full.result (length c.args.self.now.log) LOG_RECORDS (λ e. ap (λ (v : CoreView). length v.log) (sym c.self.view_is) ∙ c.is_full.ensures.value.0 e)
+    (λ e. c.is_full.ensures.value.1 (ap (λ (v : CoreView). length v.log) c.self.view_is ∙ e)) in
+    inr (refusal_is c.self.inside c.self.invariant c.args.self.now c.self.view_is c.args.session c.in-Some.call.now c.is_full.result is full ∙ c.in_ok-outcome.ensures.refusal, refl)
+
+pub end_call-notes-requires-clause-not_full : goal.end_call-notes-requires-clause-not_full
+end_call-notes-requires-clause-not_full g c =
+    let done = ready c.in-Some.call.now.machine.progress c.is_full.result c.in_ok-outcome.ensures.refusal in
+    λ e. true≢false (sym (c.is_full.ensures.value.1 (ap length (sym c.make_room.ensures.records) ∙ e)) ∙ done.1)
+
+pub returns-in-Some-taken-clause-answer : goal.returns-in-Some-taken-clause-answer
+returns-in-Some-taken-clause-answer g c =
+    let is : call_at c.self.inside c.args.session ≡ Some c.in-Some.call.now = held_at c.self.inside c.in-Some.call.now c.from-index.ensures c.as_slice.ensures.value c.in-Some.ensures in
     λ u there. (
       c.len-place.ensures ∙ ap length c.make_room.ensures.records ∙ ap (λ (v : CoreView). length v.log) c.self.view_is,
-      c.in_ok-outcome.ensures.outcome u there,
-      c.new.ensures ∙ c.in_ok-outcome.ensures.replies u there,
+      outcome_is c.self.inside c.self.invariant c.args.self.now c.self.view_is c.args.session c.in-Some.call.now c.in_ok-outcome.field-0.outcome is c.in_ok-outcome.ensures.outcome u there,
+      replies_are c.self.inside c.self.invariant c.args.self.now c.self.view_is c.args.session c.in-Some.call.now c.new.result is (c.new.ensures ∙ c.in_ok-outcome.ensures.replies) u there,
     )
 
-pub returns-in-None-clause-refused : goal.returns-in-None-clause-refused
-returns-in-None-clause-refused g c =
-    ap (λ (calls : Vec (Option (OpenCall g.row.A.Denot)) g.row.A.Denot). view_of (record c.self.inside { log = c.make_room.new.log; changed = c.make_room.new.changed; calls = calls }))
-    (c.in-None.ensures.none refl)
-    ∙ roomy_view c.self.inside c.args.self.now c.self.view_is c.make_room.new.log c.make_room.new.changed c.make_room.ensures.records
-
-pub returns-in-None-clause-refusal : goal.returns-in-None-clause-refusal
-returns-in-None-clause-refusal g c =
-    inl (not_active c.self.inside c.self.invariant c.args.self.now c.self.view_is c.args.session (ap (call_at c.self.inside) (sym c.from-index.ensures) ∙ sym c.in-None.ensures.value))
+pub returns-in-Some-taken-clause-refusal : goal.returns-in-Some-taken-clause-refusal
+returns-in-Some-taken-clause-refusal g c =
+    let is : call_at c.self.inside c.args.session ≡ Some c.in-Some.call.now = held_at c.self.inside c.in-Some.call.now c.from-index.ensures c.as_slice.ensures.value c.in-Some.ensures in
+    let full = same_test c.is_full.result (length c.args.self.now.log) LOG_RECORDS (λ e. ap (λ (v : CoreView). length v.log) (sym c.self.view_is) ∙ c.is_full.ensures.value.0 e)
+    (λ e. c.is_full.ensures.value.1 (ap (λ (v : CoreView). length v.log) c.self.view_is ∙ e)) in
+    refusal_is c.self.inside c.self.invariant c.args.self.now c.self.view_is c.args.session c.in-Some.call.now c.is_full.result is full ∙ c.in_ok-outcome.ensures.refusal

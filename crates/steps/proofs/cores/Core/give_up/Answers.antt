@@ -2,6 +2,7 @@ use Rattle.std.proofs.Common.{◌≡◌, ◌<◌, None, Option, IsSome, Vec, ref
 use Rattle.steps.specs.inside.CoreFields.{IsCore, view_of}
 use Rattle.steps.specs.CoreViews.{GivesUp, Underway, open_at}
 use Rattle.steps.specs.declared.calls.OpenCall.{OpenCall}
+use Rattle.steps.proofs.sessions.CallProgress.{other_rooms}
 use Rattle.steps.proofs.sessions.EndedCall.{within, gave_up, give_up_core, give_up_view, is_open, not_open}
 use Rattle.steps.proofs.cores.Core.give_up.Goals as goal
 
@@ -13,9 +14,10 @@ clear-requires g c = subst (λ n. c.from-index.result < n) c.self.invariant.sess
 
 pub invariant_of-self : goal.invariant_of-self
 invariant_of-self g c =
-    give_up_core c.self.inside c.self.invariant c.from-index.result c.in-Some.call
-    (sym c.in-Some.ensures.value) c.taken.new.calls c.undo_all.new.store c.release_all.new.self c.clear.new.self c.after_release-self-inside.result
-    c.in-Some.ensures.some c.undo_all.ensures.versions c.undo_all.ensures.keys c.release_all.ensures c.clear.ensures c.after_release-self-inside.ensures
+    other_rooms _
+    (give_up_core c.self.inside c.self.invariant c.from-index.result c.in-Some.call
+    (sym c.in-Some.ensures.value) c.taken.new.kept c.undo_all.new.store c.release_all.new.self c.clear.new.self c.after_release-self-inside.result
+    c.in-Some.ensures.some c.undo_all.ensures.versions c.undo_all.ensures.keys c.release_all.ensures c.clear.ensures c.after_release-self-inside.ensures) c.keep_room.new.rooms
 
 pub invariant_of-self-in-None : goal.invariant_of-self-in-None
 invariant_of-self-in-None g c =
@@ -23,10 +25,10 @@ invariant_of-self-in-None g c =
 
 pub returns-in-Some-clause-given_up : goal.returns-in-Some-clause-given_up
 returns-in-Some-clause-given_up g c =
-    subst (λ i. GivesUp c.args.self.now (view_of (gave_up c.self.inside c.self.invariant c.from-index.result c.taken.new.calls c.undo_all.new.store c.release_all.new.self c.clear.new.self
+    subst (λ i. GivesUp c.args.self.now (view_of (gave_up c.self.inside c.self.invariant c.from-index.result c.taken.new.kept c.undo_all.new.store c.release_all.new.self c.clear.new.self
     c.after_release-self-inside.result)) i) c.from-index.ensures
     (give_up_view c.self.inside c.self.invariant c.from-index.result c.in-Some.call
-    (sym c.in-Some.ensures.value) c.taken.new.calls c.undo_all.new.store c.release_all.new.self c.clear.new.self c.after_release-self-inside.result
+    (sym c.in-Some.ensures.value) c.taken.new.kept c.undo_all.new.store c.release_all.new.self c.clear.new.self c.after_release-self-inside.result
     c.args.self.now c.self.view_is c.in-Some.ensures.some c.undo_all.ensures.versions c.undo_all.ensures.slots c.undo_all.ensures.same)
 
 pub returns-in-Some-clause-active : goal.returns-in-Some-clause-active

@@ -1,8 +1,8 @@
 use Rattle.std.proofs.Common.{ap, ◌∙◌, subst}
 use Rattle.workers.specs.Streams.{SendsAs}
-use Rattle.workers.specs.Checkpointed.{Checkpointed, call_count}
+use Rattle.workers.specs.Checkpointed.{Checkpointed, KeepsOrigin, call_count}
 use Rattle.workers.proofs.CoreGrowth.{sends}
-use Rattle.workers.proofs.Growth.{count_keeps, cuts_keep}
+use Rattle.workers.proofs.Growth.{count_keeps, cuts_keep, origin_keeps}
 use Rattle.workers.proofs.checkpointed.Checkpointed.capture_to.Goals as goal
 
 pub invariant_of-self : goal.invariant_of-self
@@ -28,3 +28,11 @@ returns-clause-calls g c =
     let new = c.capture_to.new.self in
     let h : SendsAs old new c.args.tap.now c.capture_to.new.tap c.capture_to.result = record { captured = e.captured; sent = e.sent; refused = e.refused; refusal = e.refusal } in
     count_keeps old new (sends old new c.args.tap.now c.capture_to.new.tap c.capture_to.result h) ∙ ap (λ (v : Checkpointed). call_count v.core.log) c.self.view_is
+
+pub returns-clause-origin : goal.returns-clause-origin
+returns-clause-origin g c =
+    let e = c.capture_to.ensures in
+    let old = c.self.inside.core in
+    let new = c.capture_to.new.self in
+    let h : SendsAs old new c.args.tap.now c.capture_to.new.tap c.capture_to.result = record { captured = e.captured; sent = e.sent; refused = e.refused; refusal = e.refusal } in
+    subst (λ (v : Checkpointed). KeepsOrigin v.core new) c.self.view_is (origin_keeps old new (sends old new c.args.tap.now c.capture_to.new.tap c.capture_to.result h))

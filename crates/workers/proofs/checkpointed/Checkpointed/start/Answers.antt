@@ -1,8 +1,8 @@
 use Rattle.std.proofs.Common.{ap, ◌∙◌, subst, add-zero}
 use Rattle.steps.specs.Schedules.{StartsAs}
-use Rattle.workers.specs.Checkpointed.{Checkpointed, call_count}
+use Rattle.workers.specs.Checkpointed.{Checkpointed, KeepsOrigin, call_count}
 use Rattle.workers.proofs.CoreGrowth.{starts}
-use Rattle.workers.proofs.Growth.{count_grows, cuts_grow}
+use Rattle.workers.proofs.Growth.{count_grows, cuts_grow, origin_grows}
 use Rattle.workers.proofs.checkpointed.Checkpointed.start.Goals as goal
 
 pub invariant_of-self : goal.invariant_of-self
@@ -28,3 +28,11 @@ returns-clause-calls g c =
     let new = c.start.new.self in
     let h : StartsAs old new c.args.kind c.start.result = record { started = e.started; number = e.number; refused = e.refused; refusal = e.refusal } in
     count_grows old new 0 (starts old new c.args.kind c.start.result h) ∙ (add-zero (call_count old.log) ∙ ap (λ (v : Checkpointed). call_count v.core.log) c.self.view_is)
+
+pub returns-clause-origin : goal.returns-clause-origin
+returns-clause-origin g c =
+    let e = c.start.ensures in
+    let old = c.self.inside.core in
+    let new = c.start.new.self in
+    let h : StartsAs old new c.args.kind c.start.result = record { started = e.started; number = e.number; refused = e.refused; refusal = e.refusal } in
+    subst (λ (v : Checkpointed). KeepsOrigin v.core new) c.self.view_is (origin_grows old new 0 (starts old new c.args.kind c.start.result h))

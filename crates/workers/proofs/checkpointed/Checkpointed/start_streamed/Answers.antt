@@ -1,8 +1,8 @@
 use Rattle.std.proofs.Common.{ap, ◌∙◌, subst, add-zero}
 use Rattle.workers.specs.Streams.{StreamsAs}
-use Rattle.workers.specs.Checkpointed.{Checkpointed, call_count}
+use Rattle.workers.specs.Checkpointed.{Checkpointed, KeepsOrigin, call_count}
 use Rattle.workers.proofs.CoreGrowth.{streams}
-use Rattle.workers.proofs.Growth.{count_grows, cuts_grow}
+use Rattle.workers.proofs.Growth.{count_grows, cuts_grow, origin_grows}
 use Rattle.workers.proofs.checkpointed.Checkpointed.start_streamed.Goals as goal
 
 pub invariant_of-self : goal.invariant_of-self
@@ -28,3 +28,11 @@ returns-clause-calls g c =
     let new = c.start_streamed.new.self in
     let h : StreamsAs old new c.args.kind c.start_streamed.result = record { started = e.started; number = e.number; refused = e.refused; refusal = e.refusal } in
     count_grows old new 0 (streams old new c.args.kind c.start_streamed.result h) ∙ (add-zero (call_count old.log) ∙ ap (λ (v : Checkpointed). call_count v.core.log) c.self.view_is)
+
+pub returns-clause-origin : goal.returns-clause-origin
+returns-clause-origin g c =
+    let e = c.start_streamed.ensures in
+    let old = c.self.inside.core in
+    let new = c.start_streamed.new.self in
+    let h : StreamsAs old new c.args.kind c.start_streamed.result = record { started = e.started; number = e.number; refused = e.refused; refusal = e.refusal } in
+    subst (λ (v : Checkpointed). KeepsOrigin v.core new) c.self.view_is (origin_grows old new 0 (streams old new c.args.kind c.start_streamed.result h))

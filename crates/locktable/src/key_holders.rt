@@ -1,0 +1,154 @@
+//! The holders of each key that is held.
+
+ghost use Rattle.std.specs.Prelude.{◌≡◌, ◌≢◌, ◌<◌, ◌↔◌, Err, IfOk, IsSome, OnErr, OnOk, Some};
+ghost use Rattle.std.specs.FinMap as map;
+ghost use Rattle.locktable.specs.Holders.{ChangesTo, Refuses, mode_among, mode_in};
+ghost use Rattle.locktable.specs.Modes.{IsAtMost, stronger};
+ghost use Rattle.locktable.specs.Tables.{SetsMode, with_key};
+
+use crate::errors::LockError;
+use crate::holders::{Holders, mode_among};
+use crate::modes::{Mode, keeps_asked};
+use indexmap::IndexMap;
+use indexmap::map::Entry;
+use procedure::limits::SESSIONS;
+use procedure::{Key, NoMemory};
+use std::alloc::Allocator;
+use std::hash::{BuildHasherDefault, FoldHasher};
+use std::marker::Model;
+
+/// The sessions that hold each key, seen by contracts as a finite map. A key that nobody holds
+/// takes no place.
+#[derive(Debug, Drop)]
+pub(crate) struct KeyHolders<A: Allocator> {
+    entries: IndexMap<Key, Holders, BuildHasherDefault<FoldHasher>, A>,
+}
+
+impl<A: Allocator> Model for KeyHolders<A> {
+    ghost use Rattle.std.specs.Coded.{coded_list, coded_ℕ};
+    ghost use Rattle.std.specs.Ordering.{nat_cmp};
+    ghost use Rattle.std.specs.Cmp.Lexicographic.{slice_cmp};
+    ghost use Rattle.std.specs.FinMap as map;
+    ghost use Rattle.procedure.specs.Table.{KeyMap};
+    ghost use Rattle.locktable.specs.declared.holders.Holders.{Holders as HoldersValue};
+    ghost use Rattle.locktable.specs.contracts.holders.Holders as holders;
+
+    ghost Value = { KeyMap HoldersValue };
+
+    ghost coded = { map.code {R = slice_cmp nat_cmp} (coded_list coded_ℕ) holders.the_row.coded };
+
+    ghost view = { λ h. map.from_entries {R = slice_cmp nat_cmp} h.entries.entries };
+}
+
+/// A session is granted a lock on a key that has holders, or it is refused. `own` are the keys that
+/// it holds.
+fn join<A: Allocator>(
+    holders: &mut Holders,
+    own: &mut Vec<Key, A>,
+    session: usize,
+    key: &Key,
+    mode: Mode,
+) -> Result<Option<Mode>, LockError>
+    requires { session < SESSIONS }
+    ensures before { IfOk result (λ before. before ≡ mode_in holders.old session) }
+    ensures granted { OnOk result (ChangesTo (Some holders.old) (Some holders.new) session (Some (stronger (mode_in holders.old session) mode))) }
+    ensures own { OnOk result (own.new.items ≡ with_key own.old.items key.now (mode_in holders.old session)) }
+    ensures refused { OnErr result (holders.new ≡ holders.old) }
+    ensures own_refused { OnErr result (own.new.items ≡ own.old.items) }
+    ensures conflict { result ≡ Err LockError.Conflict ↔ Refuses (Some holders.old) session mode }
+    ensures memory { IsSome (mode_in holders.old session) → result ≢ Err LockError.NoMemory }
+{
+    let held = mode_among(Some(*holders), session);
+    if keeps_asked(held, mode) {
+        return Ok(held);
+    }
+    let Some(after) = holders.with(session, mode) else {
+        return Err(LockError::Conflict);
+    };
+    if held.is_none() {
+        own.reserve(1).map_err(NoMemory::from)?;
+        own.push_reserved(*key);
+    }
+    *holders = after;
+    Ok(held)
+}
+
+impl<A: Allocator + Copy> KeyHolders<A> {
+    /// No key has a holder. It takes no memory.
+    pub(crate) fn new(alloc: A) -> Self
+        ensures { result ≡ map.empty }
+    {
+        KeyHolders {
+            entries: IndexMap::new(alloc),
+        }
+    }
+}
+
+impl<A: Allocator> KeyHolders<A> {
+    /// The holders of a key, if it has any.
+    pub(crate) fn get(&self, key: &Key) -> Option<Holders>
+        ensures { result ≡ map.get self.now key.now }
+    {
+        self.entries.get(key).copied()
+    }
+
+    /// A session asks for a key; `own` are the keys that it holds. Where it is granted, it holds the
+    /// key in the stronger of the mode that it held, which is returned, and the mode that it asked
+    /// for.
+    pub(crate) fn grant(
+        &mut self,
+        own: &mut Vec<Key, A>,
+        session: usize,
+        key: &Key,
+        mode: Mode,
+    ) -> Result<Option<Mode>, LockError>
+        requires { session < SESSIONS }
+        ensures before { IfOk result (λ before. before ≡ mode_among (map.get self.old key.now) session) }
+        ensures granted { OnOk result (SetsMode self.old self.new session key.now (Some (stronger (mode_among (map.get self.old key.now) session) mode))) }
+        ensures own { OnOk result (own.new.items ≡ with_key own.old.items key.now (mode_among (map.get self.old key.now) session)) }
+        ensures refused { OnErr result (self.new ≡ self.old) }
+        ensures own_refused { OnErr result (own.new.items ≡ own.old.items) }
+        ensures conflict { result ≡ Err LockError.Conflict ↔ Refuses (map.get self.old key.now) session mode }
+        ensures memory { IsSome (mode_among (map.get self.old key.now) session) → result ≢ Err LockError.NoMemory }
+    {
+        let Ok(entry) = self.entries.entry(*key) else {
+            return Err(LockError::NoMemory);
+        };
+        let entry = match entry {
+            Entry::Occupied(entry) => return join(entry.into_mut(), own, session, key, mode),
+            Entry::Vacant(entry) => entry,
+        };
+        own.reserve(1).map_err(NoMemory::from)?;
+        own.push_reserved(*key);
+        entry.insert(Holders::one(session, mode));
+        Ok(None)
+    }
+
+    /// A session's lock on a key becomes no stronger than it is.
+    pub(crate) fn weaken(&mut self, session: usize, key: &Key, mode: Option<Mode>)
+        requires session { session < SESSIONS }
+        requires weaker { IsAtMost mode (mode_among (map.get self.old key.now) session) }
+        ensures { SetsMode self.old self.new session key.now mode }
+    {
+        let Some((index, _key, holders)) = self.entries.get_full(key) else {
+            return;
+        };
+        match holders.weakened(session, mode) {
+            Some(after) => {
+                let (_key, place) = self.entries.pair_mut(index);
+                *place = after;
+            }
+            None => {
+                let _last = self.entries.swap_remove_index(index);
+            }
+        }
+    }
+}
+
+#[cfg(test)]
+impl<A: Allocator> KeyHolders<A> {
+    /// How many keys fit without a growth.
+    pub(crate) fn capacity(&self) -> usize {
+        self.entries.capacity()
+    }
+}
