@@ -1,13 +1,15 @@
 -- A program's commands, one by one, and what was given as an argument.
-use Rattle.std.proofs.Common.{◌≡◌, ◌⊎◌, inr, ap, ap₂, sym, false, ◌||◌, List, map, Option, Some, None, option_map, Result, Ok, Err, IfErr, IfOk, IsOkAnd, ◌∙◌}
+use Rattle.std.proofs.Common.{◌≡◌, ◌⊎◌, true, refl, inr, ap, ap₂, sym, false, ◌||◌, List, map, Option, Some, None, option_map, Result, Ok, Err, IfErr, IfOk, IsOkAnd, ◌∙◌}
 use Rattle.std.specs.Borrow.{Bor}
 use Rattle.std.specs.Option.{ok_or}
 use Rattle.clap.specs.Built.{AddsArg, AddsSubcommand}
-use Rattle.clap.specs.Simple.{App, app_of, with_rule, with_subcommand}
+use Rattle.clap.specs.Faults.{is_simple_and_free}
+use Rattle.clap.specs.Simple.{App, app_of, is_simple, with_rule, with_subcommand}
 use Rattle.clap.specs.Walk.{Rule, Text, rule_of}
 use Rattle.clap.specs.declared.builder.arg.Arg.{Arg}
 use Rattle.clap.specs.declared.builder.command.Command.{Command}
 use Rattle.clap.specs.declared.builder.command.Command.TheViews.{out-Command}
+use Rattle.calcdb.specs.CommandLines.{calcdb_app}
 use Rattle.calcdb.specs.declared.command_line.Unasked.{Unasked}
 use Rattle.calcdb.specs.declared.command_line.Unasked.TheVariants.{NoMemory}
 
@@ -25,6 +27,15 @@ pub command_added : {E : Type 0} (r : Result Command E) (old new : Command) (a s
     IfOk r (λ sub. app_of sub ≡ s) → IfOk r (λ sub. (out-Command sub).has_globals ≡ false) → app_of old ≡ a → app_of new ≡ with_subcommand a s.top
 command_added (Ok sub) old new a s h sub_is local old_is = h.shape local ∙ ap₂ with_subcommand old_is (ap (λ (x : App). x.top) sub_is)
 command_added (Err e) old new a s h sub_is local old_is = absurd h
+
+-- clap says of the program's commands which matches and which faults the words have
+pub commands_are_simple : (a : App) → a ≡ calcdb_app → is_simple a ≡ true
+unfolding calcdb_app
+commands_are_simple a is = rw is refl
+
+pub commands_are_free : (a : App) → a ≡ calcdb_app → is_simple_and_free a ≡ true
+unfolding calcdb_app
+commands_are_free a is = rw is refl
 
 -- the text that is there is the one that was given
 pub given_text : {E : Type 0} (o : Option (Bor Text)) (e : E) (r : Result (Bor Text) E) (given : Option Text) →

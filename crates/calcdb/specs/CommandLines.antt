@@ -25,6 +25,10 @@ flagged flag name = record (new_rule name) { long = Some flag }
 abbrev pub switched : Text → Text → Rule
 switched flag name = record (new_rule name) { long = Some flag; action = Some SetTrue }
 
+-- the flag by which standard error gets lines of how far the work is
+abbrev pub progress_rule : Rule
+progress_rule = switched (codes "progress") (codes "PROGRESS")
+
 -- one that has to be given, and may be given again
 abbrev pub repeated : Text → Rule
 repeated name = record (required name) { action = Some Append }
@@ -37,30 +41,30 @@ written rule = record rule { parser = Some NonEmptyString }
 abbrev pub app : Text → List Rule → App
 app name rules = fold with_rule (new_app name) rules
 
--- `run SCRIPT [--open IMAGE] [--out DIR] [--threads]`
+-- `run SCRIPT [--open IMAGE] [--out DIR] [--threads] [--progress]`
 abbrev pub run_app : App
 run_app =
     app (codes "run")
-    (required (codes "SCRIPT") ∷ flagged (codes "open") (codes "IMAGE") ∷ written (flagged (codes "out") (codes "DIR")) ∷ switched (codes "threads") (codes "THREADS") ∷ [])
+    (required (codes "SCRIPT") ∷ flagged (codes "open") (codes "IMAGE") ∷ written (flagged (codes "out") (codes "DIR")) ∷ switched (codes "threads") (codes "THREADS") ∷ progress_rule ∷ [])
 
--- `load PAIRS OUT`
+-- `load PAIRS OUT [--progress]`
 abbrev pub load_app : App
-load_app = app (codes "load") (required (codes "PAIRS") ∷ written (required (codes "OUT")) ∷ [])
+load_app = app (codes "load") (required (codes "PAIRS") ∷ written (required (codes "OUT")) ∷ progress_rule ∷ [])
 
--- `merge OUT IMAGE...`
+-- `merge OUT IMAGE... [--progress]`
 abbrev pub merge_app : App
-merge_app = app (codes "merge") (written (required (codes "OUT")) ∷ repeated (codes "IMAGE") ∷ [])
+merge_app = app (codes "merge") (written (required (codes "OUT")) ∷ repeated (codes "IMAGE") ∷ progress_rule ∷ [])
 
--- `recover SCRIPT LOG OUT IMAGE...`
+-- `recover SCRIPT LOG OUT IMAGE... [--progress]`
 abbrev pub recover_app : App
-recover_app = app (codes "recover") (required (codes "SCRIPT") ∷ required (codes "LOG") ∷ written (required (codes "OUT")) ∷ repeated (codes "IMAGE") ∷ [])
+recover_app = app (codes "recover") (required (codes "SCRIPT") ∷ required (codes "LOG") ∷ written (required (codes "OUT")) ∷ repeated (codes "IMAGE") ∷ progress_rule ∷ [])
 
 -- `show FILE`
 abbrev pub show_app : App
 show_app = app (codes "show") (required (codes "FILE") ∷ [])
 
 -- the program's commands
-abbrev pub calcdb_app : App
+unfoldable pub calcdb_app : App
 calcdb_app =
     let top = on_top (λ s. record s { subcommand_required = true; arg_required_else_help = true; has_version = true }) (new_app (codes "calcdb")) in
     fold (λ a s. with_subcommand a s.top) top (run_app ∷ load_app ∷ merge_app ∷ recover_app ∷ show_app ∷ [])
@@ -80,16 +84,17 @@ AsksFor given (Run files) =
     (given.0 ≡ codes "run") × (first_of (codes "SCRIPT") given.1 ≡ Some files.script.now)
     × (first_of (codes "IMAGE") given.1 ≡ option_map (λ s. s.now) files.opening)
     × (first_of (codes "DIR") given.1 ≡ option_map (λ s. s.now) files.folder)
-    × (files.threads ≡ is_given (codes "THREADS") given.1)
-AsksFor given (Load pairs out) =
+    × (files.threads ≡ is_given (codes "THREADS") given.1) × (files.progress ≡ is_given (codes "PROGRESS") given.1)
+AsksFor given (Load pairs out progress) =
     (given.0 ≡ codes "load") × (first_of (codes "PAIRS") given.1 ≡ Some pairs.now) × (first_of (codes "OUT") given.1 ≡ Some out.now)
-AsksFor given (Merge out images) =
+    × (progress ≡ is_given (codes "PROGRESS") given.1)
+AsksFor given (Merge out images progress) =
     (given.0 ≡ codes "merge") × (first_of (codes "OUT") given.1 ≡ Some out.now)
-    × (all_of (codes "IMAGE") given.1 ≡ Some (map (λ s. s.now) images.items))
-AsksFor given (Recover script log out images) =
+    × (all_of (codes "IMAGE") given.1 ≡ Some (map (λ s. s.now) images.items)) × (progress ≡ is_given (codes "PROGRESS") given.1)
+AsksFor given (Recover script log out images progress) =
     (given.0 ≡ codes "recover") × (first_of (codes "SCRIPT") given.1 ≡ Some script.now)
     × (first_of (codes "LOG") given.1 ≡ Some log.now) × (first_of (codes "OUT") given.1 ≡ Some out.now)
-    × (all_of (codes "IMAGE") given.1 ≡ Some (map (λ s. s.now) images.items))
+    × (all_of (codes "IMAGE") given.1 ≡ Some (map (λ s. s.now) images.items)) × (progress ≡ is_given (codes "PROGRESS") given.1)
 AsksFor given (Show file) = (given.0 ≡ codes "show") × (first_of (codes "FILE") given.1 ≡ Some file.now)
 
 abbrev pub IsTask : List Text → Task → Type 0

@@ -26,6 +26,9 @@ Statuses:
   1  an input is faulty or refused, a file can't be read or written, or there is no memory
   2  the command line is faulty
 
+As SCRIPT or PAIRS, - is standard input; a file of this name is ./-. With --progress, long work says on
+standard error how far it is, at most ten times a second.
+
 A file that is made takes its name when it is whole, and replaces what has the name. docs/FORMATS.md has
 the language of scripts, and the bytes of images and logs.";
 
@@ -59,6 +62,7 @@ pub(crate) struct RunFiles<'a> {
     pub folder: Option<&'a str>,
     /// Whether it is run in threads.
     pub threads: bool,
+    pub progress: bool,
 }
 
 /// What the program is asked to do, with the names of files.
@@ -70,11 +74,13 @@ pub(crate) enum Task<'a> {
     Load {
         pairs: &'a str,
         out: &'a str,
+        progress: bool,
     },
     /// Merge a chain of images, and write the merged one to `out`.
     Merge {
         out: &'a str,
         images: Vec<&'a str, Global>,
+        progress: bool,
     },
     /// Recover a table from a chain of images and a log, with the procedures of a script, and write its
     /// image to `out`.
@@ -83,11 +89,25 @@ pub(crate) enum Task<'a> {
         log: &'a str,
         out: &'a str,
         images: Vec<&'a str, Global>,
+        progress: bool,
     },
     /// Print an image or a log.
     Show {
         file: &'a str,
     },
+}
+
+impl Task<'_> {
+    /// Whether it is to be said how far the work is.
+    pub(crate) fn tells(&self) -> bool {
+        match self {
+            Task::Run(files) => files.progress,
+            Task::Load { progress, .. }
+            | Task::Merge { progress, .. }
+            | Task::Recover { progress, .. } => *progress,
+            Task::Show { .. } => false,
+        }
+    }
 }
 
 /// An argument that has to be given.
@@ -117,6 +137,19 @@ fn switched<'a>(alloc: Global, flag: &'a str, name: &'a str, help: &'a str) -> A
         .help(help)
 }
 
+/// The flag by which standard error gets lines of how far the work is.
+fn progress_flag<'a>(alloc: Global) -> Arg<'a>
+    ensures rule { rule_of result ≡ spec.progress_rule }
+    ensures local { result.global ≡ false }
+{
+    switched(
+        alloc,
+        "progress",
+        "PROGRESS",
+        "says on standard error how far it is",
+    )
+}
+
 /// One that has to be given, and may be given again.
 fn repeated<'a>(alloc: Global, name: &'a str, help: &'a str) -> Arg<'a>
     ensures rule { rule_of result ≡ spec.repeated name.now }
@@ -140,10 +173,15 @@ fn described_run<'a>(alloc: Global) -> Result<Command<'a>, AllocError>
     Command::new(alloc, "run")
         .about("Runs a script, and prints one answer for each command")
         .after_help(RUN_NOTES)
-        .arg(required(alloc, "SCRIPT", "the file with the script"))?
+        .arg(required(
+            alloc,
+            "SCRIPT",
+            "the file with the script, or - for standard input",
+        ))?
         .arg(flagged(alloc, "open", "IMAGE", "the image to open from"))?
         .arg(written(flagged(alloc, "out", "DIR", "the folder for the images and the log")))?
-        .arg(switched(alloc, "threads", "THREADS", "runs it in threads"))
+        .arg(switched(alloc, "threads", "THREADS", "runs it in threads"))?
+        .arg(progress_flag(alloc))
 }
 
 fn described_load<'a>(alloc: Global) -> Result<Command<'a>, AllocError>
@@ -153,8 +191,13 @@ fn described_load<'a>(alloc: Global) -> Result<Command<'a>, AllocError>
     Command::new(alloc, "load")
         .about("Makes an opening image of keys and values, and prints its header")
         .after_help(LOAD_NOTES)
-        .arg(required(alloc, "PAIRS", "the file with the pairs"))?
-        .arg(written(required(alloc, "OUT", "the file for the image")))
+        .arg(required(
+            alloc,
+            "PAIRS",
+            "the file with the pairs, or - for standard input",
+        ))?
+        .arg(written(required(alloc, "OUT", "the file for the image")))?
+        .arg(progress_flag(alloc))
 }
 
 fn described_merge<'a>(alloc: Global) -> Result<Command<'a>, AllocError>
@@ -165,7 +208,8 @@ fn described_merge<'a>(alloc: Global) -> Result<Command<'a>, AllocError>
         .about("Makes one image of a full one and the partial ones after it, and prints its header")
         .after_help(MERGE_NOTES)
         .arg(written(required(alloc, "OUT", "the file for the merged image")))?
-        .arg(repeated(alloc, "IMAGE", "the images, the full one first"))
+        .arg(repeated(alloc, "IMAGE", "the images, the full one first"))?
+        .arg(progress_flag(alloc))
 }
 
 fn described_recover<'a>(alloc: Global) -> Result<Command<'a>, AllocError>
@@ -177,10 +221,15 @@ fn described_recover<'a>(alloc: Global) -> Result<Command<'a>, AllocError>
             "Makes an opening image of what images and a log hold, and prints what was recovered",
         )
         .after_help(RECOVER_NOTES)
-        .arg(required(alloc, "SCRIPT", "a script with the procedures"))?
+        .arg(required(
+            alloc,
+            "SCRIPT",
+            "a script with the procedures, or - for standard input",
+        ))?
         .arg(required(alloc, "LOG", "the file with the log"))?
         .arg(written(required(alloc, "OUT", "the file for the image")))?
-        .arg(repeated(alloc, "IMAGE", "the images, the full one first"))
+        .arg(repeated(alloc, "IMAGE", "the images, the full one first"))?
+        .arg(progress_flag(alloc))
 }
 
 fn described_show<'a>(alloc: Global) -> Result<Command<'a>, AllocError>
@@ -290,6 +339,7 @@ fn asked_run<'a>(given: &ArgMatches<'a>) -> Result<Task<'a>, Unasked>
         opening: given_perhaps(given, "IMAGE"),
         folder: given_perhaps(given, "DIR"),
         threads: is_given(given, "THREADS"),
+        progress: is_given(given, "PROGRESS"),
     }))
 }
 
@@ -301,6 +351,7 @@ fn asked_load<'a>(given: &ArgMatches<'a>) -> Result<Task<'a>, Unasked>
     Ok(Task::Load {
         pairs: given_once(given, "PAIRS")?,
         out: given_once(given, "OUT")?,
+        progress: is_given(given, "PROGRESS"),
     })
 }
 
@@ -312,6 +363,7 @@ fn asked_merge<'a>(alloc: Global, given: &ArgMatches<'a>) -> Result<Task<'a>, Un
     Ok(Task::Merge {
         out: given_once(given, "OUT")?,
         images: given_all(alloc, given, "IMAGE")?,
+        progress: is_given(given, "PROGRESS"),
     })
 }
 
@@ -325,6 +377,7 @@ fn asked_recover<'a>(alloc: Global, given: &ArgMatches<'a>) -> Result<Task<'a>, 
         log: given_once(given, "LOG")?,
         out: given_once(given, "OUT")?,
         images: given_all(alloc, given, "IMAGE")?,
+        progress: is_given(given, "PROGRESS"),
     })
 }
 
@@ -375,6 +428,7 @@ fn refused<'a>(program: &mut Command<'a>, why: Unasked) -> Result<Error, AllocEr
 }
 
 /// What the words ask the program's command for.
+#[tactic(auto, using(crate::proofs::CommandLines::commands_are_simple, crate::proofs::CommandLines::commands_are_free))]
 fn job_of<'a, S: AsStr>(
     alloc: Global,
     program: &mut Command<'a>,

@@ -2,35 +2,78 @@
 
 use crate::faults::failures::{Failure, OutFile};
 use crate::new_files::begin;
+use crate::progress::{CountedFiles, Progress};
 use image::{Image, WriteError, seal_to};
 use std::alloc::Allocator;
 use std::fs;
 use std::io::{self, ErrorKind, Read, Write};
 use std::rt::Files;
 
-/// A file that is looked for before its bytes are needed: where it can't be opened, the first read fails.
+/// The name that stands for standard input. A file of this name is `./-`.
+const STDIN: &str = "-";
+
+/// A text that is looked for before its bytes are needed.
 #[derive(Drop)]
-pub(crate) struct Input<F: Drop> {
-    file: Option<F>,
+pub(crate) enum Input<F: Drop, I: Drop> {
+    File(F),
+    Stdin(I),
+    /// A file that can't be opened. The first read fails.
+    Unopened,
 }
 
-/// The file of this name.
-pub(crate) fn input_of<R: Files>(rt: &R, name: &str) -> Input<R::File>
+/// The text of this name: of a file, or what standard input gives.
+pub(crate) fn input_of<'a, R: Files, I: Read>(
+    rt: &R,
+    name: &str,
+    stdin: &'a mut I,
+) -> Input<R::File, &'a mut I>
 where
     R::File: Drop,
 {
-    Input {
-        file: fs::open(rt, name).ok(),
+    if name == STDIN {
+        return Input::Stdin(stdin);
+    }
+    match fs::open(rt, name) {
+        Ok(file) => Input::File(file),
+        Err(_) => Input::Unopened,
     }
 }
 
-impl<F: Read + Drop> Read for Input<F> {
+impl<F: Read + Drop, I: Read + Drop> Read for Input<F, I> {
     fn read(&mut self, buf: &mut [u8]) -> io::Result<usize> {
-        match &mut self.file {
-            Some(file) => file.read(buf),
-            None => Err(io::Error::from(ErrorKind::NotFound)),
+        match self {
+            Input::File(file) => file.read(buf),
+            Input::Stdin(stdin) => stdin.read(buf),
+            Input::Unopened => Err(io::Error::from(ErrorKind::NotFound)),
         }
     }
+}
+
+/// All that a reader gives, which stands for the file of this name.
+fn read_whole<'a, I: Read, A: Allocator>(
+    alloc: A,
+    reader: &mut I,
+    name: &'a str,
+) -> Result<Vec<u8, A>, Failure<'a>> {
+    let mut bytes = Vec::new(alloc);
+    match reader.read_to_end(&mut bytes) {
+        Ok(_) => Ok(bytes),
+        Err(error) if error.kind() == ErrorKind::OutOfMemory => Err(Failure::NoMemory),
+        Err(_) => Err(Failure::CannotRead(name)),
+    }
+}
+
+/// All of the text of this name.
+pub(crate) fn read_input<'a, R: Files, I: Read, A: Allocator>(
+    alloc: A,
+    rt: &R,
+    name: &'a str,
+    stdin: &mut I,
+) -> Result<Vec<u8, A>, Failure<'a>>
+where
+    R::File: Drop,
+{
+    read_whole(alloc, &mut input_of(rt, name, stdin), name)
 }
 
 /// All that a file has.
@@ -42,22 +85,18 @@ pub(crate) fn read_file<'a, R: Files, A: Allocator>(
 where
     R::File: Drop,
 {
-    let Ok(mut file) = fs::open(rt, name) else {
-        return Err(Failure::CannotRead(name));
-    };
-    let mut bytes = Vec::new(alloc);
-    match file.read_to_end(&mut bytes) {
-        Ok(_) => Ok(bytes),
-        Err(error) if error.kind() == ErrorKind::OutOfMemory => Err(Failure::NoMemory),
+    match fs::open(rt, name) {
+        Ok(mut file) => read_whole(alloc, &mut file, name),
         Err(_) => Err(Failure::CannotRead(name)),
     }
 }
 
-/// All that each of the files has, which are read in their order.
-pub(crate) fn read_files<'a, R: Files, A: Allocator + Copy>(
+/// All that each of the files has, which are read in their order and counted.
+pub(crate) fn read_files<'a, R: Files, P: Progress + Drop, A: Allocator + Copy>(
     alloc: A,
     rt: &R,
     names: &[&'a str],
+    counted: &mut CountedFiles<P>,
 ) -> Result<Vec<Vec<u8, A>, A>, Failure<'a>>
 where
     R::File: Drop,
@@ -65,6 +104,7 @@ where
     let mut files = Vec::new(alloc);
     for name in names {
         files.push(read_file(alloc, rt, name)?)?;
+        counted.add_one();
     }
     Ok(files)
 }

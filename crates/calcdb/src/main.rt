@@ -27,6 +27,7 @@ mod pairs;
 mod plans;
 mod preambles;
 mod program;
+mod progress;
 mod recover_files;
 mod run;
 mod run_folder;
@@ -42,6 +43,16 @@ mod values;
 use std::process::ExitCode;
 
 fn main(rt: HostRuntime) -> ExitCode {
+    let mut stdin = rt.stdin();
     let mut err = rt.stderr();
-    ExitCode::from(program::start(rt.alloc(), &rt, &rt, &rt, rt.stdout(), &mut err))
+    ExitCode::from(program::start(
+        rt.alloc(),
+        &rt,
+        &rt,
+        &rt,
+        &rt,
+        &mut stdin,
+        rt.stdout(),
+        &mut err,
+    ))
 }

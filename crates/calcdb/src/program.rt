@@ -5,9 +5,12 @@ use crate::engine::{Ran, run_script};
 use crate::faults::failures::{Failure, OutFile};
 use crate::faults::refusals::{refuse, write_fault};
 use crate::faults::{Fault, Reason};
-use crate::files::{flush, input_of, read_file, read_files, write_image};
+use crate::files::{flush, input_of, read_file, read_files, read_input, write_image};
 use crate::merge_files::merge_files;
 use crate::pairs::load;
+use crate::progress::{
+    CountedBytes, CountedFiles, CountedLines, CountedSteps, Progress, Ticker, told_where,
+};
 use crate::recover_files::recover_files;
 use crate::run_folder::write_run;
 use crate::show::show;
@@ -17,11 +20,12 @@ use clap::error::ErrorKind;
 use image::{Image, Kind, ReadError, ReadFromError, read_from};
 use std::alloc::Allocator;
 use std::convert::AsStr;
-use std::env;
-use std::io::{self, BufWriter, Write};
+use std::io::{self, BufWriter, Read, Write};
 use std::rt::{Env, Files};
 use std::sync::Wait;
 use std::thread::Threads;
+use std::time::Clock;
+use std::{env, fs};
 
 /// The image of a file. Where it is refused, one line on standard output says why.
 fn read_opening<'a, R: Files, O: Write, A: Allocator + Copy>(
@@ -33,7 +37,10 @@ fn read_opening<'a, R: Files, O: Write, A: Allocator + Copy>(
 where
     R::File: Drop,
 {
-    match read_from(alloc, &mut input_of(rt, name)) {
+    let Ok(mut file) = fs::open(rt, name) else {
+        return Err(Failure::CannotRead(name));
+    };
+    match read_from(alloc, &mut file) {
         Ok(image) => Ok(image),
         Err(ReadFromError::ReadFault) => Err(Failure::CannotRead(name)),
         Err(ReadFromError::Image(ReadError::NoMemory)) => Err(Failure::NoMemory),
@@ -83,25 +90,59 @@ where
     }
 }
 
+/// Runs the script that a reader gives, in threads where there are some.
+fn run_reader<
+    T: Threads + Wait + Sync,
+    I: Read,
+    O: Write,
+    P: Progress + Sync,
+    A: Allocator + Copy + Send + Sync,
+>(
+    alloc: A,
+    threads: Option<&T>,
+    script: &mut I,
+    opening: Image<A>,
+    progress: Option<&P>,
+    out: &mut O,
+) -> Result<Ran<A>, Fault> {
+    match threads {
+        Some(threads) => {
+            let gate = CountedSteps::new(progress);
+            run_threads(threads, alloc, script, out, opening, &gate)
+        }
+        None => {
+            let mut lines = CountedLines::new(out, progress);
+            run_script(alloc, script, &mut lines, opening)
+        }
+    }
+}
+
 /// Runs a script over an opening, in threads where that is asked for.
-fn run_over<'a, T: Threads + Wait + Sync, R: Files, O: Write, A: Allocator + Copy + Send + Sync>(
+fn run_over<
+    'a,
+    T: Threads + Wait + Sync,
+    R: Files,
+    I: Read,
+    O: Write,
+    P: Progress + Sync,
+    A: Allocator + Copy + Send + Sync,
+>(
     alloc: A,
     threads: &T,
     rt: &R,
     files: RunFiles<'a>,
     opening: Image<A>,
+    stdin: &mut I,
+    progress: Option<&P>,
     out: &mut O,
 ) -> Result<(), Failure<'a>>
 where
     R::File: Drop,
 {
-    let mut script = input_of(rt, files.script);
-    let ran = if files.threads {
-        run_threads(threads, alloc, &mut script, out, opening)
-    } else {
-        run_script(alloc, &mut script, out, opening)
-    };
-    match ran {
+    let mut text = input_of(rt, files.script, stdin);
+    let mut script = CountedBytes::new(&mut text, progress);
+    let threads = if files.threads { Some(threads) } else { None };
+    match run_reader(alloc, threads, &mut script, opening, progress, out) {
         Ok(ran) => {
             let left = leave_run(alloc, rt, files.folder, &ran, out);
             drop(ran);
@@ -113,18 +154,28 @@ where
 
 /// Runs a script, and at its end writes its images and its log where that is asked for. The image to
 /// open from is read and checked before the script is looked for.
-fn run_task<'a, T: Threads + Wait + Sync, R: Files, O: Write, A: Allocator + Copy + Send + Sync>(
+fn run_task<
+    'a,
+    T: Threads + Wait + Sync,
+    R: Files,
+    I: Read,
+    O: Write,
+    P: Progress + Sync,
+    A: Allocator + Copy + Send + Sync,
+>(
     alloc: A,
     threads: &T,
     rt: &R,
     files: RunFiles<'a>,
+    stdin: &mut I,
+    progress: Option<&P>,
     out: &mut O,
 ) -> Result<(), Failure<'a>>
 where
     R::File: Drop,
 {
     let opening = opening_of(alloc, rt, files.opening, out)?;
-    run_over(alloc, threads, rt, files, opening, out)
+    run_over(alloc, threads, rt, files, opening, stdin, progress, out)
 }
 
 /// Makes a file of the image that a command made, once its standard output is out.
@@ -149,32 +200,37 @@ where
 }
 
 /// Loads a file of pairs, and makes a file of their image.
-fn load_task<'a, R: Files, O: Write, A: Allocator + Copy>(
+fn load_task<'a, R: Files, I: Read, O: Write, P: Progress, A: Allocator + Copy>(
     alloc: A,
     rt: &R,
     pairs: &'a str,
     name: &'a str,
+    stdin: &mut I,
+    progress: Option<&P>,
     out: &mut O,
 ) -> Result<(), Failure<'a>>
 where
     R::File: Drop,
 {
-    let made = load(alloc, &mut input_of(rt, pairs), out);
+    let mut text = input_of(rt, pairs, stdin);
+    let made = load(alloc, &mut CountedBytes::new(&mut text, progress), out);
     write_made(alloc, rt, made, pairs, name, out)
 }
 
 /// Merges the images of files, and makes a file of the merged one.
-fn merge_task<'a, R: Files, O: Write, A: Allocator + Copy>(
+fn merge_task<'a, R: Files, O: Write, P: Progress, A: Allocator + Copy>(
     alloc: A,
     rt: &R,
     name: &'a str,
     images: &[&'a str],
+    progress: Option<&P>,
     out: &mut O,
 ) -> Result<(), Failure<'a>>
 where
     R::File: Drop,
 {
-    let images = read_files(alloc, rt, images)?;
+    let mut files = CountedFiles::of(images.len(), progress);
+    let images = read_files(alloc, rt, images, &mut files)?;
     let made = merge_files(alloc, images.as_slice(), out);
     write_made(alloc, rt, made, name, name, out)
 }
@@ -188,19 +244,25 @@ struct Sources<'a, 'b> {
 }
 
 /// Recovers a table of files, and makes a file of its image.
-fn recover_task<'a, R: Files, O: Write, A: Allocator + Copy>(
+fn recover_task<'a, R: Files, I: Read, O: Write, P: Progress, A: Allocator + Copy>(
     alloc: A,
     rt: &R,
     name: &'a str,
     sources: Sources<'a, '_>,
+    stdin: &mut I,
+    progress: Option<&P>,
     out: &mut O,
 ) -> Result<(), Failure<'a>>
 where
     R::File: Drop,
 {
-    let script = read_file(alloc, rt, sources.script)?;
+    // The script and the log come before the images.
+    let mut files = CountedFiles::of(sources.images.len().saturating_add(2), progress);
+    let script = read_input(alloc, rt, sources.script, stdin)?;
+    files.add_one();
     let log = read_file(alloc, rt, sources.log)?;
-    let images = read_files(alloc, rt, sources.images)?;
+    files.add_one();
+    let images = read_files(alloc, rt, sources.images, &mut files)?;
     let made = recover_files(
         alloc,
         script.as_slice(),
@@ -244,11 +306,21 @@ fn refused<'a, O: Write, A: Allocator + Copy>(
 }
 
 /// Does a task.
-fn do_task<'a, T: Threads + Wait + Sync, R: Files, O: Write, A: Allocator + Copy + Send + Sync>(
+fn do_task<
+    'a,
+    T: Threads + Wait + Sync,
+    R: Files,
+    I: Read,
+    O: Write,
+    P: Progress + Sync,
+    A: Allocator + Copy + Send + Sync,
+>(
     alloc: A,
     threads: &T,
     rt: &R,
     task: &Task<'a>,
+    stdin: &mut I,
+    progress: Option<&P>,
     out: &mut O,
 ) -> Result<(), Failure<'a>>
 where
@@ -256,21 +328,30 @@ where
 {
     let done = match task {
         // A run says at once that memory was wanting, on standard error.
-        Task::Run(files) => return run_task(alloc, threads, rt, *files, out),
-        Task::Load { pairs, out: name } => load_task(alloc, rt, pairs, name, out),
-        Task::Merge { out: name, images } => merge_task(alloc, rt, name, images.as_slice(), out),
+        Task::Run(files) => return run_task(alloc, threads, rt, *files, stdin, progress, out),
+        Task::Load {
+            pairs,
+            out: name,
+            progress: _,
+        } => load_task(alloc, rt, pairs, name, stdin, progress, out),
+        Task::Merge {
+            out: name,
+            images,
+            progress: _,
+        } => merge_task(alloc, rt, name, images.as_slice(), progress, out),
         Task::Recover {
             script,
             log,
             out: name,
             images,
+            progress: _,
         } => {
             let sources = Sources {
                 script,
                 log,
                 images: images.as_slice(),
             };
-            recover_task(alloc, rt, name, sources, out)
+            recover_task(alloc, rt, name, sources, stdin, progress, out)
         }
         Task::Show { file } => show_task(alloc, rt, file, out),
     };
@@ -317,20 +398,35 @@ fn concluded<E: Write>(err: &mut E, done: Result<(), Failure<'_>>) -> u8 {
 /// the process: 0 where it is done, also with refusals inside a script; 1 where an input is refused, a
 /// file can't be read or written, or there is no memory; 2 where the command line is faulty. The command
 /// line takes its memory from the runtime, and the work from `alloc`. `threads` starts the threads of a run.
+/// Where it is asked for, standard error gets lines of how far the work is, by `clock`.
 pub(crate) fn perform<
     T: Threads + Wait + Sync,
+    C: Clock + Sync,
     R: Files + AllocGlobal,
     S: AsStr,
+    I: Read,
     O: Write,
-    E: Write,
+    E: Write + Send,
     A: Allocator + Copy + Send + Sync,
->(alloc: A, threads: &T, rt: &R, words: &[S], out: &mut O, err: &mut E) -> u8
+>(
+    alloc: A,
+    threads: &T,
+    clock: &C,
+    rt: &R,
+    words: &[S],
+    stdin: &mut I,
+    out: &mut O,
+    err: &mut E,
+) -> u8
 where
     R::File: Drop,
 {
     match job(rt.alloc(), words) {
         Ok(task) => {
-            let done = do_task(alloc, threads, rt, &task, out);
+            let ticker = Ticker::new(clock, &mut *err);
+            let progress = told_where(task.tells(), &ticker);
+            let done = do_task(alloc, threads, rt, &task, stdin, progress, out);
+            drop(ticker);
             concluded(err, flushed(out, done))
         }
         Err(error) => {
@@ -344,11 +440,22 @@ where
 fn perform_buffered<
     V: Env + Alloc,
     T: Threads + Wait + Sync,
+    C: Clock + Sync,
     R: Files + AllocGlobal,
+    I: Read,
     O: Write + Drop,
-    E: Write,
+    E: Write + Send,
     A: Allocator + Copy + Send + Sync,
->(alloc: A, env: &V, threads: &T, rt: &R, out: O, err: &mut E) -> io::Result<u8>
+>(
+    alloc: A,
+    env: &V,
+    threads: &T,
+    clock: &C,
+    rt: &R,
+    stdin: &mut I,
+    out: O,
+    err: &mut E,
+) -> io::Result<u8>
 where
     R::File: Drop,
 {
@@ -357,7 +464,8 @@ where
         words.push(word)?;
     }
     let mut out = BufWriter::new(alloc, out)?;
-    Ok(perform(alloc, threads, rt, words.as_slice(), &mut out, err))
+    let words = words.as_slice();
+    Ok(perform(alloc, threads, clock, rt, words, stdin, &mut out, err))
 }
 
 /// What the process does, and its status. Where its words or its buffer aren't to be had, that is for
@@ -366,15 +474,17 @@ where
 pub(crate) fn start<
     V: Env + Alloc,
     T: Threads + Wait + Sync,
+    C: Clock + Sync,
     R: Files + AllocGlobal,
+    I: Read,
     O: Write + Drop,
-    E: Write,
+    E: Write + Send,
     A: Allocator + Copy + Send + Sync,
->(alloc: A, env: &V, threads: &T, rt: &R, out: O, err: &mut E) -> u8
+>(alloc: A, env: &V, threads: &T, clock: &C, rt: &R, stdin: &mut I, out: O, err: &mut E) -> u8
 where
     R::File: Drop,
 {
-    match perform_buffered(alloc, env, threads, rt, out, err) {
+    match perform_buffered(alloc, env, threads, clock, rt, stdin, out, err) {
         Ok(status) => status,
         Err(error) if error.kind() == io::ErrorKind::OutOfMemory => {
             concluded(err, Err(Failure::NoMemory))

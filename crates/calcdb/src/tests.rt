@@ -1,6 +1,7 @@
 //! Tests of the program, as tables of texts and rows of commands.
 
 mod ample_memory;
+mod asked;
 mod checkpoints;
 mod console;
 mod core_calls;

@@ -37,7 +37,7 @@ use std::thread::{self, Threads};
 use steps::Core;
 use view::{Naming, Opened, Publisher, Told, open_view};
 use workers::checkpointed::{Checkpointed, count_calls};
-use workers::{Gate, Open, Origin, Report, run_all};
+use workers::{Gate, Origin, Report, run_all};
 
 /// Writes the lines of a run: its calls, its images and its audit.
 fn write_ran<W: Write, A: Allocator + Copy>(
@@ -191,6 +191,7 @@ fn run_plan<
     W: Write,
     T: Threads + Wait + Sync,
     A: Allocator + Copy + Send + Sync,
+    G: Gate + Sync,
 >(
     threads: &'a T,
     alloc: A,
@@ -199,6 +200,7 @@ fn run_plan<
     plan: Plan<A>,
     publisher: Publisher<J, &'a T, A>,
     reader: Reader<J, A>,
+    gate: &G,
 ) -> Result<Ran<A>, Fault>
     ensures ok { IfOk result (λ r. (text : Bytes) × RunsInThreads plan.count plan.keys.items r.core r.images.items text × Appends (W.contents writer.old) (W.contents writer.new) text) }
     ensures origin { IfOk result (λ r. IsFrom J.catalog J.opening r.core) }
@@ -216,7 +218,7 @@ fn run_plan<
     let asked = kinds.as_slice();
     let looks = move || look_beside(threads, reader, wanted, ended);
     let runs = move || run_to_end(
-        threads, alloc, named, scripts, asked, publisher, &Open, ended,
+        threads, alloc, named, scripts, asked, publisher, gate, ended,
     );
     let (reader, ran) = thread::join(threads, looks, runs);
     match ran {
@@ -233,6 +235,7 @@ fn run_in_view<
     W: Write,
     T: Threads + Wait + Sync,
     A: Allocator + Copy + Send + Sync,
+    G: Gate + Sync,
 >(
     threads: &T,
     alloc: A,
@@ -240,6 +243,7 @@ fn run_in_view<
     core: Core<A>,
     plan: Plan<A>,
     opened: Opened<A>,
+    gate: &G,
 ) -> Result<Ran<A>, Fault>
     requires name { name_of opened ≡ J.book }
     requires origin { IsFrom J.catalog J.opening core }
@@ -259,6 +263,7 @@ fn run_in_view<
                 plan,
                 publisher,
                 reader,
+                gate,
             )
         }
         Err(_) => {
@@ -269,12 +274,18 @@ fn run_in_view<
 }
 
 /// Carries out a script on a core that is opened for it.
-fn run_opened<W: Write, T: Threads + Wait + Sync, A: Allocator + Copy + Send + Sync>(
+fn run_opened<
+    W: Write,
+    T: Threads + Wait + Sync,
+    A: Allocator + Copy + Send + Sync,
+    G: Gate + Sync,
+>(
     threads: &T,
     alloc: A,
     writer: &mut W,
     script: ThreadScript<A>,
     opening: Image<A>,
+    gate: &G,
 ) -> Result<Ran<A>, Fault>
     requires { is_opening opening ≡ true }
     ensures ok { IfOk result (λ r. (text : Bytes) × RunsInThreads (length (call_commands script.commands)) (keys_of script.commands) r.core r.images.items text × Appends (W.contents writer.old) (W.contents writer.new) text) }
@@ -287,7 +298,15 @@ fn run_opened<W: Write, T: Threads + Wait + Sync, A: Allocator + Copy + Send + S
     };
     match Core::open(alloc, catalog, opening) {
         Ok(core) => {
-            run_in_view::<Brand, W, T, A>(threads, alloc, writer, core, plan, Opened::new())
+            run_in_view::<Brand, W, T, A, G>(
+                threads,
+                alloc,
+                writer,
+                core,
+                plan,
+                Opened::new(),
+                gate,
+            )
         }
         // The opening is one, so memory was wanting.
         Err(_) => Err(Fault::NoMemory),
@@ -295,19 +314,20 @@ fn run_opened<W: Write, T: Threads + Wait + Sync, A: Allocator + Copy + Send + S
 }
 
 /// Checks a text and carries it out.
-fn run_text<W: Write, T: Threads + Wait + Sync, A: Allocator + Copy + Send + Sync>(
+fn run_text<W: Write, T: Threads + Wait + Sync, A: Allocator + Copy + Send + Sync, G: Gate + Sync>(
     threads: &T,
     alloc: A,
     writer: &mut W,
     text: &[u8],
     opening: Image<A>,
+    gate: &G,
 ) -> Result<Ran<A>, Fault>
     requires { is_opening opening ≡ true }
     ensures run { IfOk result (λ r. (out : Bytes) × RunsToEnd (thread_script_of text.now) opening r.core r.images.items out × Appends (W.contents writer.old) (W.contents writer.new) out) }
     ensures fault { IfErr result (EndsInThreads (thread_script_of text.now) opening (W.contents writer.old) (W.contents writer.new)) }
 {
     match read_thread_script(alloc, text) {
-        Ok(script) => run_opened(threads, alloc, writer, script, opening),
+        Ok(script) => run_opened(threads, alloc, writer, script, opening, gate),
         Err(fault) => Err(refuse_script(alloc, writer, fault)),
     }
 }
@@ -316,13 +336,22 @@ fn run_text<W: Write, T: Threads + Wait + Sync, A: Allocator + Copy + Send + Syn
 /// session in one of their own, the checkpoints in another, and beside them a looker that gets the keys. At
 /// the end it writes what came of them. The opening is looked at first, then the whole text; where one of them
 /// is faulty, or no view can be opened, one line says so and nothing else is written. A read or write that
-/// fails, by an interruption too, and a write of no byte end the run.
+/// fails, by an interruption too, and a write of no byte end the run. The threads pass the gate before each
+/// step.
 pub(crate) fn run_threads<
     R: Read,
     W: Write,
     T: Threads + Wait + Sync,
     A: Allocator + Copy + Send + Sync,
->(threads: &T, alloc: A, reader: &mut R, writer: &mut W, opening: Image<A>) -> Result<Ran<A>, Fault>
+    G: Gate + Sync,
+>(
+    threads: &T,
+    alloc: A,
+    reader: &mut R,
+    writer: &mut W,
+    opening: Image<A>,
+    gate: &G,
+) -> Result<Ran<A>, Fault>
     // Where the reader tells its bytes: the core has the script's procedures and the opening, each image is that
     // of its checkpoint in its log, the log passes its audit, and the lines of all that were written.
     ensures run { IfOk result (λ r. (source : Bytes) → R.remaining reader.old ≡ Some source → (text : Bytes) × RunsToEnd (thread_script_of source) opening r.core r.images.items text × Appends (W.contents writer.old) (W.contents writer.new) text) }
@@ -338,5 +367,5 @@ pub(crate) fn run_threads<
         Err(Unread::ReadFault) => return Err(Fault::Read),
         Err(Unread::NoMemory) => return Err(Fault::NoMemory),
     };
-    run_text(threads, alloc, writer, text.as_slice(), opening)
+    run_text(threads, alloc, writer, text.as_slice(), opening, gate)
 }

@@ -3,6 +3,8 @@
 //!
 //! - `calcdb WORDS = STATUS`: the program, and below what it writes, after `out` and `err`;
 //! - `starved calcdb WORDS = STATUS`: the same, with every growth refused;
+//! - `timeless calcdb WORDS = STATUS`: the same, with a clock that fails; else it goes on by 50 milliseconds
+//!   each time that it is looked at;
 //! - `scarce calcdb WORDS = COUNT`: with each growth refused in turn it says so, at least so often, or
 //!   does as ever;
 //! - `cramped calcdb WORDS = FILES`: the same where all answers are written; of the files, a line each with
@@ -13,56 +15,27 @@
 //! - `bytewise calcdb WORDS = COUNT`: so many bytes are written, a byte a call, and each call in turn fails;
 //! - `unwritten calcdb WORDS = -`: it ends where standard output takes no write, or can't be flushed;
 //! - `misused calcdb WORDS = -`: they ask for nothing;
+//! - in each of these `piped NAME calcdb WORDS` in place of `calcdb WORDS`: the program, with the bytes of
+//!   this file on its standard input, which else can't be read;
 //! - `size NAME = COUNT`, or `none`; and `same NAME = NAME`: what files have;
 //! - `folder NAME = -`, `remove NAME = -`, `link NAME = NAME`; `private NAME = -`, which its owner alone may
 //!   use, and `mode NAME = DIGITS`, who may;
 //! - any other makes a file of this name, see `made_files.rt`.
 
-use crate::program::perform;
-use crate::tests::devices::{PLENTY, Sink};
+use crate::tests::asked::{Asked, asks, behind_status, output, performed_on, transcript};
+use crate::tests::devices::{Looks, PLENTY, Sink};
 use crate::tests::faulty_files::{Calls, FaultyFiles};
 use crate::tests::growths::{EVERY, Fallible, MOST};
 use crate::tests::made_files::make_file;
 use crate::tests::rows::{Line, check_named, check_that, number_of, rows_of};
-use crate::tests::texts::words_of;
 use std::alloc::{Allocator, Global};
 use std::fs::{self, Permissions};
-use std::io::ErrorKind;
 use std::os::unix::fs::PermissionsExt;
 use std::process::Abort;
 use std::rt::Files;
 use std::sync::Wait;
 use std::test::Fail;
 use std::thread::Threads;
-
-/// A standard output that takes at most `most` bytes a call, and `calls` calls.
-fn output(alloc: Global, most: usize, calls: usize) -> Sink {
-    let mut out = Sink::new(alloc, most, calls);
-    out.fault = ErrorKind::Other;
-    out
-}
-
-/// Lines, each after the name of the output that they stand on.
-fn push_lines(text: &mut Vec<u8>, name: &[u8], lines: &[u8]) -> Result<(), Fail> {
-    for line in lines.split_inclusive(|byte| *byte == b'\n') {
-        text.extend_from_slice(name)?;
-        text.extend_from_slice(line)?;
-    }
-    Ok(())
-}
-
-/// A status, and the lines of both outputs.
-fn transcript(alloc: Global, status: u8, out: &[u8], err: &[u8]) -> Result<Vec<u8>, Fail> {
-    let mut text = Vec::from_slice(alloc, format!(in alloc; "{status}\n")?.as_bytes())?;
-    push_lines(&mut text, b"out ", out)?;
-    push_lines(&mut text, b"err ", err)?;
-    Ok(text)
-}
-
-/// What a transcript has after its status of one digit.
-fn behind_status(transcript: &[u8]) -> &[u8] {
-    &transcript[transcript.len().min(2)..]
-}
 
 /// What is said on standard error where there is no memory.
 const NO_MEMORY: &[u8] = b"err calcdb: no memory\n";
@@ -89,21 +62,6 @@ fn wanted_memory(rt: &impl Abort, line: &str, found: &[u8], whole: &[u8]) -> boo
     false
 }
 
-/// The status of the program for the words of a line, and its standard error, over files of a runtime.
-fn performed_on<
-    T: Threads + Wait + Sync,
-    R: Files + AllocGlobal,
-    A: Allocator + Copy + Send + Sync,
->(threads: &T, rt: &R, alloc: A, line: &str, out: &mut Sink) -> Result<(u8, Vec<u8, Global>), Fail>
-where
-    R::File: Drop,
-{
-    let mut err = Sink::new(rt.alloc(), PLENTY, PLENTY);
-    let words = words_of(rt.alloc(), line)?;
-    let status = perform(alloc, threads, rt, words.as_slice(), out, &mut err);
-    Ok((status, err.kept))
-}
-
 /// What standard error has where standard output fails.
 const UNWRITTEN: &[u8] = b"calcdb: cannot write output\n";
 
@@ -125,7 +83,9 @@ where
         line: &str,
         out: &mut Sink,
     ) -> Result<(u8, Vec<u8, Global>), Fail> {
-        performed_on(self.threads, self.rt, alloc, line, out)
+        let asked = Asked::of_line(self.rt, line)?;
+        let clock = Looks::new(50);
+        Ok(performed_on(self.threads, &clock, self.rt, alloc, &asked, out))
     }
 
     /// What a line comes to, with an output that takes all.
@@ -286,9 +246,17 @@ where
     /// What a line comes to over files that fail.
     fn found_over(&self, calls: &Calls, line: &str) -> Result<Vec<u8>, Fail> {
         let alloc = self.rt.alloc();
+        let asked = Asked::of_line(self.rt, line)?;
         let rt = (FaultyFiles { rt: self.rt, calls }, alloc);
         let mut out = output(alloc, PLENTY, PLENTY);
-        let (status, err) = performed_on(self.threads, &rt, alloc, line, &mut out)?;
+        let (status, err) = performed_on(
+            self.threads,
+            &Looks::new(50),
+            &rt,
+            alloc,
+            &asked,
+            &mut out,
+        );
         transcript(alloc, status, out.kept.as_slice(), err.as_slice())
     }
 
@@ -395,6 +363,24 @@ where
         Ok(())
     }
 
+    /// The same, with a clock that fails.
+    fn check_timeless(&self, line: &str, wanted: &str) -> Result<(), Fail> {
+        let alloc = self.rt.alloc();
+        let asked = Asked::of_line(self.rt, line)?;
+        let mut out = output(alloc, PLENTY, PLENTY);
+        let (status, err) = performed_on(
+            self.threads,
+            &Looks::failing(),
+            self.rt,
+            alloc,
+            &asked,
+            &mut out,
+        );
+        let found = transcript(alloc, status, out.kept.as_slice(), err.as_slice())?;
+        check_named(self.rt, line, found.as_slice(), wanted);
+        Ok(())
+    }
+
     /// The same, with every growth refused.
     fn check_starved(&self, line: &str, wanted: &str) -> Result<(), Fail> {
         let heap = Fallible::new(self.rt.alloc());
@@ -411,6 +397,7 @@ where
             "unwritten" => self.check_unwritten(line),
             "misused" => self.check_misused(line),
             "starved" => self.check_starved(line, wanted),
+            "timeless" => self.check_timeless(line, wanted),
             _ => self.check_found(self.rt.alloc(), line, wanted),
         }
     }
@@ -449,11 +436,11 @@ where
     /// Runs a line of a row.
     fn check_line(&self, line: &Line<'_>) -> Result<(), Fail> {
         let wanted = line.answer.as_str();
-        if line.command.starts_with("calcdb") {
+        if asks(line.command) {
             return self.check_command("", line.command, wanted);
         }
         let (verb, rest) = line.command.split_once(' ').ok_or("no words")?;
-        if rest.starts_with("calcdb") {
+        if asks(rest) {
             self.check_command(verb, rest, wanted)
         } else {
             self.check_file(verb, rest, wanted)

@@ -1,7 +1,9 @@
-//! A reader and a writer for tests, which fail where they are told to and count it.
+//! A reader, a writer and a clock for tests, which fail where they are told to.
 
 use std::alloc::Global;
 use std::io::{Error, ErrorKind, Read, Result as IoResult, Write};
+use std::sync::atomic::{AtomicU64, Ordering};
+use std::time::{Clock, Duration};
 
 /// More calls, and more bytes a call, than a test asks for.
 pub(crate) const PLENTY: usize = 1_000_000;
@@ -66,6 +68,8 @@ pub(crate) struct Source<'a> {
     left: &'a [u8],
     most: usize,
     calls: usize,
+    /// What it fails with.
+    pub(crate) fault: ErrorKind,
     pub(crate) failures: usize,
 }
 
@@ -75,6 +79,7 @@ impl<'a> Source<'a> {
             left,
             most,
             calls,
+            fault: ErrorKind::Interrupted,
             failures: 0,
         }
     }
@@ -83,7 +88,7 @@ impl<'a> Source<'a> {
 impl Read for Source<'_> {
     fn read(&mut self, buf: &mut [u8]) -> IoResult<usize> {
         if self.calls == 0 {
-            return Err(failure(&mut self.failures, ErrorKind::Interrupted));
+            return Err(failure(&mut self.failures, self.fault));
         }
         self.calls -= 1;
         let given = self.left.len().min(self.most).min(buf.len());
@@ -91,5 +96,41 @@ impl Read for Source<'_> {
         buf[..given].copy_from_slice(now);
         self.left = later;
         Ok(given)
+    }
+}
+
+/// A clock that goes on by so many milliseconds at each look, or fails.
+#[derive(Drop)]
+pub(crate) struct Looks {
+    step: Option<u64>,
+    shown: AtomicU64,
+}
+
+impl Looks {
+    pub(crate) fn new(step: u64) -> Looks {
+        Looks {
+            step: Some(step),
+            shown: AtomicU64::new(0),
+        }
+    }
+
+    pub(crate) fn failing() -> Looks {
+        Looks {
+            step: None,
+            shown: AtomicU64::new(0),
+        }
+    }
+}
+
+impl Clock for Looks {
+    fn monotonic(&self) -> IoResult<Duration> {
+        match self.step {
+            Some(step) => Ok(Duration::from_millis(self.shown.fetch_add(step, Ordering::SeqCst))),
+            None => Err(Error::from(ErrorKind::Other)),
+        }
+    }
+
+    fn since_1970(&self) -> IoResult<Duration> {
+        self.monotonic()
     }
 }

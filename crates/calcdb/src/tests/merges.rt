@@ -15,7 +15,8 @@ older merged = merged / size merged = 95 / calcdb merge merged full = 0|out imag
 calcdb merge merged partial last = 1|out refused not full / calcdb merge merged full partial full = 1|out refused not partial 1
 calcdb merge merged full last = 1|out refused gap 0 / unwritten calcdb merge merged full = - / unwritten calcdb merge merged full last = -
 starved calcdb merge merged full = 1|out refused no memory / size merged = none / bytewise calcdb merge merged full partial last = 36
-scarce calcdb merge merged full partial last = 6
+scarce calcdb merge merged full partial last = 6 / calcdb merge merged full partial last --progress = 0|out image full 3 base 3 place 9 count 2|err calcdb: 2 of 3 files
+timeless calcdb merge merged full partial last --progress = 0|out image full 3 base 3 place 9 count 2 / remove merged = -
 # chains in version 1, and of both versions
 older full = full / older partial = partial / calcdb merge merged full partial last = 0|out image full 3 base 3 place 9 count 2 / older last = last
 calcdb merge merged full partial last = 0|out image full 3 base 3 place 9 count 2 / calcdb merge merged full = 0|out image full 1 base 1 place 1 count 2

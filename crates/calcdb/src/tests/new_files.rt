@@ -2,7 +2,7 @@
 
 use crate::program::perform;
 use crate::tests::console::check_rows;
-use crate::tests::devices::{PLENTY, Sink};
+use crate::tests::devices::{Looks, PLENTY, Sink};
 use std::fs;
 use std::rt::Files;
 use std::sync::Wait;
@@ -55,7 +55,18 @@ where
 {
     let mut out = Sink::new(rt.alloc(), PLENTY, PLENTY);
     let mut err = Sink::new(rt.alloc(), PLENTY, PLENTY);
-    perform(rt.alloc(), rt, rt, words, &mut out, &mut err)
+    let mut stdin: &[u8] = b"";
+    let clock = Looks::failing();
+    perform(
+        rt.alloc(),
+        rt,
+        &clock,
+        rt,
+        words,
+        &mut stdin,
+        &mut out,
+        &mut err,
+    )
 }
 
 /// What is written has a name.

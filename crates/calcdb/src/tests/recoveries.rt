@@ -80,6 +80,14 @@ cut two/log = 150 / calcdb recover two/script two/log two/recovered two/0.img = 
 calcdb recover two/script two/log two/recovered two/0.img = 0|out recovered calls 1 clean count 1 / calcdb show two/recovered = 0|out image full 0 base 0 place 0 count 1|out 'a #5
 cut two/log = 72 / calcdb recover two/script two/log two/recovered two/0.img = 0|out recovered calls 0 clean count 0 / cut two/log = 71
 calcdb recover two/script two/log two/recovered two/0.img = 1|out refused not a log / bytewise calcdb recover two/script two/log two/recovered two/0.img = 18 / remove two = -
+# procedures on standard input, and one that can't be read
+folder two = - / write two/script = proc new 2|insert $0 $1|end|call 0 1 new 'a #5 / calcdb run two/script --out two = 0|out place 0 committed
+piped two/script calcdb recover - two/log two/recovered two/0.img = 0|out recovered calls 1 clean count 1 / size two/recovered = 114
+calcdb recover --progress two/script two/log two/recovered two/0.img = 0|out recovered calls 1 clean count 1|err calcdb: 2 of 3 files
+timeless calcdb recover --progress two/script two/log two/recovered two/0.img = 0|out recovered calls 1 clean count 1
+unsaved piped two/script calcdb recover - two/log two/recovered two/0.img = two/recovered 114 / starved piped two/script calcdb recover - two/log two/recovered two/0.img = 1|out refused no memory
+calcdb recover - two/log two/recovered two/0.img = 1|err calcdb: cannot read - / piped two/script calcdb recover two/script - two/recovered two/0.img = 1|err calcdb: cannot read -
+piped two/script calcdb recover two/script two/log two/recovered - = 1|err calcdb: cannot read - / remove two = -
 # files of two runs: another catalog, another opening, and calls of another opening than the log's
 folder two = - / write two/script = proc new 2|insert $0 $1|end|call 0 1 new 'a #5 / calcdb run two/script --out two = 0|out place 0 committed
 write two/other = proc get 1|read r0 $0|end / calcdb recover two/other two/log two/recovered two/0.img = 1|out refused wrong catalog
@@ -90,6 +98,6 @@ calcdb recover two/script two/log two/recovered two/opening = 1|out refused dive
 
 #[test]
 fn recoveries(rt: HostRuntime) -> Result<(), Fail> {
-    assert_eq!(rt; check_rows(&rt, RECOVERIES)?, 4);
+    assert_eq!(rt; check_rows(&rt, RECOVERIES)?, 5);
     Ok(())
 }

@@ -28,6 +28,18 @@ calcdb run faulty --open second = 1|out refused bad block 1 / turn second = 113 
 unwritten calcdb run right --open second = - / image second = full 0 base 0 place 1: a=1 / calcdb run right --open second = 1|out refused not an opening
 calcdb run none --open second = 1|out refused not an opening / unwritten calcdb run right --open second = - / image second = partial 1 base 0 place 0: a=1
 calcdb run faulty --open second = 1|out refused not an opening / remove right = - / remove faulty = - / remove first = - / remove second = -
+# a script on standard input, one that can't be read, and a file of that name
+write right = proc new 2|insert $0 $1|end|call 0 1 new 'a #5|call 0 2 new 'a #5|step 0 / piped right calcdb run - = 0|out place 0 committed|out place 1 aborted 1|out refused not active
+bytewise piped right calcdb run - = 55 / starved piped right calcdb run - = 1|err calcdb: no memory / calcdb run - = 1|err calcdb: cannot read -
+write - = step 0|stop 0 / calcdb run ./- = 1|out fault line 2 / piped - calcdb run - = 1|out fault line 2 / piped right calcdb run ./- = 1|out fault line 2 / remove - = -
+; Only the text is read from there.
+piped right calcdb run right --open - = 1|err calcdb: cannot read - / piped right calcdb run right --out - = 1|out place 0 committed|out place 1 aborted 1|out refused not active
+err calcdb: cannot write -/0.img / piped right calcdb show - = 1|err calcdb: cannot read - / remove right = -
+# how far a run is: each second look at the clock is a line, of the text's bytes and then of the answers' lines
+write right = proc new 2|insert $0 $1|end|call 0 1 new 'a #5|call 0 2 new 'a #5|step 0|start full|advance
+calcdb run right --progress = 0|out place 0 committed|out place 1 aborted 1|out refused not active|out checkpoint 1|out phase resolve
+err calcdb: 92 bytes|err calcdb: 2 lines|err calcdb: 4 lines
+timeless calcdb run right --progress = 0|out place 0 committed|out place 1 aborted 1|out refused not active|out checkpoint 1|out phase resolve / remove right = -
 ";
 
 /// What runs leave in a folder.
@@ -90,11 +102,20 @@ write faulty = 'a #1|'a #2 / calcdb load faulty image = 1|out fault line 2 / cal
 calcdb load . image = 1|err calcdb: cannot read . / unwritten calcdb load faulty image = - / size image = none / write faulty = 'a #1
 calcdb load faulty none/image = 1|out image full 0 base 0 place 0 count 1|err calcdb: cannot write none/image
 calcdb load faulty . = 1|out image full 0 base 0 place 0 count 1|err calcdb: cannot write . / remove faulty = -
+# pairs on standard input, and an image in a file of that name
+write pairs = 'a #1 / piped pairs calcdb load - image = 0|out image full 0 base 0 place 0 count 1 / size image = 114 / scarce piped pairs calcdb load - image = 5
+unsaved piped pairs calcdb load - image = image 114 / remove image = - / calcdb load - image = 1|err calcdb: cannot read - / size image = none
+piped pairs calcdb load - - = 0|out image full 0 base 0 place 0 count 1 / size - = 114 / remove - = - / pad pairs = 4194305 / piped pairs calcdb load - image = 1|out fault size / remove pairs = -
+# how much of the pairs is read: each second look at the clock is a line
+write pairs = 'a #1|'b #2|'c #3 / calcdb load pairs image --progress = 0|out image full 0 base 0 place 0 count 3|err calcdb: 18 bytes
+piped pairs calcdb load - image --progress = 0|out image full 0 base 0 place 0 count 3|err calcdb: 14 bytes|err calcdb: 18 bytes
+timeless calcdb load pairs image --progress = 0|out image full 0 base 0 place 0 count 3 / calcdb load none image --progress = 1|err calcdb: cannot read none
+remove pairs = - / remove image = -
 ";
 
 #[test]
 fn runs(rt: HostRuntime) -> Result<(), Fail> {
-    assert_eq!(rt; check_rows(&rt, RUNS)?, 4);
+    assert_eq!(rt; check_rows(&rt, RUNS)?, 6);
     Ok(())
 }
 
@@ -184,6 +205,6 @@ fn files_of_many_images(rt: HostRuntime) -> Result<(), Fail> {
 
 #[test]
 fn loads(rt: HostRuntime) -> Result<(), Fail> {
-    assert_eq!(rt; check_rows(&rt, LOADS)?, 3);
+    assert_eq!(rt; check_rows(&rt, LOADS)?, 5);
     Ok(())
 }

@@ -2,7 +2,7 @@
 ghost use Rattle.std.specs.Io.{WritesAtMost};
 
 use crate::program::start;
-use crate::tests::devices::{PLENTY, Sink};
+use crate::tests::devices::{Looks, PLENTY, Sink};
 use crate::tests::growths::{EVERY, Fallible, MOST};
 use crate::tests::made_files::make_file;
 use std::alloc::{Allocator, Global};
@@ -60,7 +60,11 @@ where
 {
     let mut out = Sink::new(rt.alloc(), PLENTY, PLENTY);
     let mut err = Sink::new(rt.alloc(), PLENTY, PLENTY);
-    let status = start(alloc, &words, rt, rt, &mut out, &mut err);
+    let mut stdin: &[u8] = b"";
+    let clock = Looks::failing();
+    let status = start(
+        alloc, &words, rt, &clock, rt, &mut stdin, &mut out, &mut err,
+    );
     (status, out.kept, err.kept)
 }
 

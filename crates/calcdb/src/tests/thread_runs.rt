@@ -10,11 +10,12 @@ use std::alloc::Global;
 use std::sync::Wait;
 use std::test::Fail;
 use std::thread::Threads;
+use workers::Open;
 
 const RUNS: &str = "\
 # the calls of two sessions beside a checkpoint
 write calls = proc set 2|put $0 $1|end|call 0 1 set 'a #1|call 0 2 set 'a #2|call 1 1 set 'b #1|checkpoint full
-calcdb run calls --threads = 0|out calls 3 answered 3 stopped 0|out images 1|out audit ok
+calcdb run calls --threads = 0|out calls 3 answered 3 stopped 0|out images 1|out audit ok / piped calls calcdb run - --threads = 0|out calls 3 answered 3 stopped 0|out images 1|out audit ok
 bytewise calcdb run calls --threads = 47 / unwritten calcdb run calls --threads = - / starved calcdb run calls --threads = 1|err calcdb: no memory / remove calls = -
 # a number that isn't above the one before it
 write twice = proc set 2|put $0 $1|end|call 0 1 set 'a #1|call 0 1 set 'a #2
@@ -32,6 +33,10 @@ write nothing = proc set 2|put $0 $1|end / calcdb run nothing --threads = 0|out 
 write wrong = stop 0 / calcdb run wrong --threads = 1|out fault line 1 / calcdb run none --threads = 1|err calcdb: cannot read none / pad wrong = 4194305
 calcdb run wrong --threads = 1|out fault size / image second = full 0 base 0 place 1: a=1 / calcdb run wrong --open second --threads = 1|out refused not an opening
 remove second = - / remove wrong = -
+# how far a run is: each second look at the clock is a line, of the text's bytes and then of the steps of two calls
+write calls = proc set 2|put $0 $1|end|call 0 1 set 'a #1|call 0 2 set 'a #2
+calcdb run calls --threads --progress = 0|out calls 2 answered 2 stopped 0|out images 0|out audit ok|err calcdb: 63 bytes|err calcdb: 2 steps|err calcdb: 4 steps|err calcdb: 6 steps
+timeless calcdb run calls --threads --progress = 0|out calls 2 answered 2 stopped 0|out images 0|out audit ok / remove calls = -
 ";
 
 /// What runs in threads leave in a folder.
@@ -46,7 +51,7 @@ remove left = -
 
 #[test]
 fn runs(rt: HostRuntime) -> Result<(), Fail> {
-    assert_eq!(rt; check_rows(&rt, RUNS)?, 5);
+    assert_eq!(rt; check_rows(&rt, RUNS)?, 6);
     Ok(())
 }
 
@@ -97,7 +102,7 @@ fn ended<T: Threads + Wait + Sync>(
     let mut source = Source::new(SCRIPT.as_bytes(), PLENTY, PLENTY);
     let mut sink = Sink::new(global, PLENTY, PLENTY);
     heap.arm(refused);
-    let fault = run_threads(rt, heap, &mut source, &mut sink, opening).err();
+    let fault = run_threads(rt, heap, &mut source, &mut sink, opening, &Open).err();
     Ok(ending_of(sink.kept.as_slice(), fault))
 }
 

@@ -1,10 +1,12 @@
 use Rattle.std.proofs.Common.{◌≡◌, ap, codes, true, ◌∙◌}
 use Rattle.std.proofs.lemmas.Result.{IfOk-weaker}
 use Rattle.clap.specs.Simple.{App, Shape, app_of, app_of_fields, new_app, on_top}
+use Rattle.calcdb.specs.CommandLines.{calcdb_app}
 use Rattle.calcdb.proofs.CommandLines.{command_added}
 use Rattle.calcdb.proofs.command_line.described.Goals as goal
 
 pub returns : goal.returns
+unfolding calcdb_app
 returns c =
     let named_is : app_of c.after_help.result ≡ new_app (codes "calcdb") = ap app_of_fields c.after_help.ensures ∙ ap app_of_fields c.about.ensures ∙ c.new.ensures.app in
     let versioned_is : app_of c.version.result ≡ on_top (λ (s : Shape). record s { has_version = true }) (new_app (codes "calcdb")) =

@@ -9,5 +9,6 @@ pub returns : goal.returns
 returns c =
     let named : IsApp c.after_help.result (new_app (codes "merge")) = (ap app_of_fields c.after_help.ensures ∙ ap app_of_fields c.about.ensures ∙ c.new.ensures.app, ap (λ f. f.has_globals) c.after_help.ensures ∙ ap (λ f. f.has_globals) c.about.ensures ∙ c.new.ensures.local) in
     let one = argument_added _ _ _ _ _ c.in_ok-arg.ensures (c.written.ensures.rule ∙ ap written c.required.ensures.rule) (c.written.ensures.local ∙ c.required.ensures.local) named in
-    let done = IfOk-weaker c.arg-2.result _ _ (λ r h. argument_added _ _ _ _ _ h c.repeated.ensures.rule c.repeated.ensures.local one) c.arg-2.ensures in
-    record { app = IfOk-weaker c.arg-2.result _ _ (λ r h. h.0) done; local = IfOk-weaker c.arg-2.result _ _ (λ r h. h.1) done }
+    let two = argument_added _ _ _ _ _ c.in_ok-arg-2.ensures c.repeated.ensures.rule c.repeated.ensures.local one in
+    let done = IfOk-weaker c.arg-3.result _ _ (λ r h. argument_added _ _ _ _ _ h c.progress_flag.ensures.rule c.progress_flag.ensures.local two) c.arg-3.ensures in
+    record { app = IfOk-weaker c.arg-3.result _ _ (λ r h. h.0) done; local = IfOk-weaker c.arg-3.result _ _ (λ r h. h.1) done }

@@ -11,5 +11,6 @@ returns c =
     let one = argument_added _ _ _ _ _ c.in_ok-arg.ensures c.required.ensures.rule c.required.ensures.local named in
     let two = argument_added _ _ _ _ _ c.in_ok-arg-2.ensures c.flagged.ensures.rule c.flagged.ensures.local one in
     let three = argument_added _ _ _ _ _ c.in_ok-arg-3.ensures (c.written.ensures.rule ∙ ap written c.flagged-2.ensures.rule) (c.written.ensures.local ∙ c.flagged-2.ensures.local) two in
-    let done = IfOk-weaker c.arg-4.result _ _ (λ r h. argument_added _ _ _ _ _ h c.switched.ensures.rule c.switched.ensures.local three) c.arg-4.ensures in
-    record { app = IfOk-weaker c.arg-4.result _ _ (λ r h. h.0) done; local = IfOk-weaker c.arg-4.result _ _ (λ r h. h.1) done }
+    let four = argument_added _ _ _ _ _ c.in_ok-arg-4.ensures c.switched.ensures.rule c.switched.ensures.local three in
+    let done = IfOk-weaker c.arg-5.result _ _ (λ r h. argument_added _ _ _ _ _ h c.progress_flag.ensures.rule c.progress_flag.ensures.local four) c.arg-5.ensures in
+    record { app = IfOk-weaker c.arg-5.result _ _ (λ r h. h.0) done; local = IfOk-weaker c.arg-5.result _ _ (λ r h. h.1) done }

@@ -18,6 +18,9 @@ run_plan-requires-sync-T g c κs within = param_sync 2 _ c.type_bounds.sync-T
 pub run_plan-requires-sync-A : goal.run_plan-requires-sync-A
 run_plan-requires-sync-A g c κs within = copied_sync 3 _ c.type_bounds.sync-A
 
+pub run_plan-requires-sync-G : goal.run_plan-requires-sync-G
+run_plan-requires-sync-G g c κs within = param_sync 4 _ c.type_bounds.sync-G
+
 pub run_plan-requires-frees-A-Allocator : goal.run_plan-requires-frees-A-Allocator
 run_plan-requires-frees-A-Allocator g c κs within = c.type_bounds.frees-A-Allocator
 
