@@ -5,12 +5,14 @@ pub mod CoreFiles
 pub mod CoreLogs
 pub mod Decimals
 pub mod Declined
+pub mod Digested
 pub mod Endings
 pub mod FileReadings
 pub mod InstructionLines
 pub mod Lawful
 pub mod LinesAfter
 pub mod Loading
+pub mod MadeFiles
 pub mod Merges
 pub mod OwnFiles
 pub mod Pieces

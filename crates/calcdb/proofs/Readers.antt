@@ -7,7 +7,7 @@ use Rattle.calcdb.specs.declared.faults.unread.Unread.TheVariants.{Faulty, NoMem
 
 -- where a part isn't read, what it is a part of isn't
 pub fails_on : {X Y : Type 0} (e : Unread) (part : Option X) (read : Option Y) → (part ≡ None → read ≡ None) → FailsToRead e part → FailsToRead e read
-fails_on Faulty part read whole h = whole h
+fails_on (Faulty why) part read whole h = whole h
 fails_on NoMemory part read whole h = tt
 
 -- the error of a part is handed on for the whole

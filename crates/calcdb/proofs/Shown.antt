@@ -16,38 +16,42 @@ use Rattle.image.specs.declared.errors.ReadError.TheVariants as read
 use Rattle.calcdb.specs.Outcomes.{fault_text}
 use Rattle.calcdb.specs.Output.{entries_text, entry_text, image_text, value_text}
 use Rattle.calcdb.specs.Reasons.{log_reason, read_reason}
-use Rattle.calcdb.specs.Refusing.{Declines, FailsAs, IsSaid, Suits, no_memory}
-use Rattle.calcdb.specs.Showing.{AgreesWithPrint, EndsShow, IsShowFault, PrintsImage, PrintsLog, StopsIn, arguments_text, of_image, of_reading, record_text, records_text}
+use Rattle.calcdb.specs.Refusing.{Declines, FailsAs, no_memory}
+use Rattle.calcdb.specs.Showing.{AgreesWithPrint, BreaksOff, EndsShow, IsShowFault, PrintsImage, PrintsLog, StopsIn, arguments_text, of_image, of_reading, record_text, records_text}
 use Rattle.procedure.specs.Streams.{IsBegun}
 use Rattle.calcdb.specs.declared.faults.Fault.{Fault}
 use Rattle.calcdb.specs.declared.faults.Fault.TheVariants as fault
 use Rattle.calcdb.specs.declared.faults.Reason.{Reason}
 use Rattle.calcdb.specs.declared.faults.Reason.TheVariants as reason
 use Rattle.calcdb.proofs.Declined.{declined, fails_wider, suits_said}
-use Rattle.procedure.proofs.WriteProgress.{Gone, begun_on}
+use Rattle.procedure.proofs.WriteProgress.{Gone, begun_on, nothing_gone}
 use Rattle.calcdb.proofs.Printed.{next_is}
 
 -- ---- where a text stops
 
-pub write_stops : (text line : Bytes) (old new : Option Bytes) (f : Fault) → line ≡ text → (f ≡ fault.Write) × IsBegun old new line → StopsIn text old new f
-write_stops text line old new f same (is, begun) = inl (is, subst (IsBegun old new) same begun)
+pub write_breaks_off : (text line : Bytes) (old new : Option Bytes) (f : Fault) → line ≡ text → (f ≡ fault.Write) × IsBegun old new line → BreaksOff text old new f
+write_breaks_off text line old new f same (is, begun) = (inl is, subst (IsBegun old new) same begun)
 
-pub memory_stops : (text : Bytes) (old new : Option Bytes) (f : Fault) → IsSaid no_memory old new f → StopsIn text old new f
-memory_stops text old new f said = inr (old, ([], text, refl, Appends-nil old), said)
+pub memory_breaks_off : (text : Bytes) (old : Option Bytes) → BreaksOff text old old fault.NoMemory
+memory_breaks_off text old = (inr refl, ([], text, refl, Appends-nil old))
 
 pub header_stops : (text : Bytes) (old new : Option Bytes) (f : Fault) → FailsAs (λ g. g ≡ no_memory) (λ (t : Bytes). t ≡ text) old new f → StopsIn text old new f
 header_stops text old new (fault.Line n) (is, out) = absurd (cc)
 header_stops text old new fault.Size (is, out) = absurd (cc)
 header_stops text old new fault.Read (is, out) = absurd (cc)
 header_stops text old new fault.NoMemory h = absurd h
-header_stops text old new (fault.Refused r) (is, out) = memory_stops text old new (fault.Refused r) (inl (is, subst (λ f. Appends old new (fault_text f)) is out))
-header_stops text old new fault.Write (t, inl is, begun) = inl (refl, subst (IsBegun old new) is begun)
-header_stops text old new fault.Write (t, inr (f, wants, is), begun) = memory_stops text old new fault.Write (inr (refl, subst (IsBegun old new) (is ∙ rw wants refl) begun))
+header_stops text old new (fault.Refused r) (is, out) = inr (inl (is, subst (λ f. Appends old new (fault_text f)) is out))
+header_stops text old new fault.Write (t, inl is, begun) = inl (inl refl, subst (IsBegun old new) is begun)
+header_stops text old new fault.Write (t, inr (f, wants, is), begun) = inr (inr (refl, subst (IsBegun old new) (is ∙ rw wants refl) begun))
 
 -- behind what went out
-pub stops_on : (old now new : Option Bytes) (text left more rest : Bytes) (f : Fault) → Gone old now text left → left ≡ more ++ rest → StopsIn more now new f → StopsIn text old new f
-stops_on old now new text left more rest f gone parts (inl (is, begun)) = inl (is, begun_on old now new text left more rest gone parts begun)
-stops_on old now new text left more rest f gone parts (inr (middle, begun, said)) = inr (middle, begun_on old now middle text left more rest gone parts begun, said)
+pub breaks_off_on : (old now new : Option Bytes) (text left more rest : Bytes) (f : Fault) → Gone old now text left → left ≡ more ++ rest → BreaksOff more now new f → BreaksOff text old new f
+breaks_off_on old now new text left more rest f gone parts (is, begun) = (is, begun_on old now new text left more rest gone parts begun)
+
+-- in its front
+pub stops_in_front : (old new : Option Bytes) (text more rest : Bytes) (f : Fault) → text ≡ more ++ rest → StopsIn more old new f → StopsIn text old new f
+stops_in_front old new text more rest f parts (inl broken) = inl (breaks_off_on old old new text text more rest f (nothing_gone old text) parts broken)
+stops_in_front old new text more rest f parts (inr said) = inr said
 
 -- ---- line by line
 
@@ -83,20 +87,22 @@ all_arguments out vs i le = rw (drop_all i vs le) (append-nil out)
 
 -- ---- what bytes print
 
-stops_suits : {X : Type 0} (text : Bytes) (old new : Option Bytes) (f : Fault) (says : Result X Reason) → StopsIn text old new f → Suits f says
-stops_suits text old new f says (inl (is, begun)) = rw is tt
-stops_suits text old new f says (inr (middle, begun, said)) = suits_said no_memory f middle new reason.NoMemory says refl (inl refl) said
+stops_agree : (text : Bytes) (old new : Option Bytes) (f : Fault) (says : Result Bytes Reason) → says ≡ Ok text → StopsIn text old new f → AgreesWithPrint (Err f) says old new
+stops_agree text old new f says is (inl (inl failed, begun)) = inl (rw failed tt)
+stops_agree text old new f says is (inl (inr wanting, begun)) = inr (wanting, text, is)
+stops_agree text old new f says is (inr said) = inl (suits_said no_memory f old new reason.NoMemory says refl (inl refl) said)
 
 -- a text that was written, or stopped, is what is said
 pub told_agrees : (r : Result (Unit {0}) Fault) (says : Result Bytes Reason) (text : Bytes) (old new : Option Bytes) → says ≡ Ok text → OnOk r (Appends old new text) →
     IfErr r (λ f. StopsIn text old new f) → AgreesWithPrint r says old new
 told_agrees (Ok x) says text old new is out stops = (text, is, out)
-told_agrees (Err f) says text old new is out stops = stops_suits text old new f says stops
+told_agrees (Err f) says text old new is out stops = stops_agree text old new f says is stops
 
 module _ (Says : Result Bytes Reason → Type 0) (old new : Option Bytes) where
   pub shown_ends : (r : Result (Unit {0}) Fault) (text : Bytes) → Says (Ok text) → IfErr r (λ f. StopsIn text old new f) → IfErr r (λ f. EndsShow Says old new f)
   shown_ends (Ok x) text says h = tt
-  shown_ends (Err f) text says h = inr (text, says, h)
+  shown_ends (Err f) text says (inl broken) = inr (text, says, broken)
+  shown_ends (Err f) text says (inr said) = inl (declined (IsShowFault Says) (λ (t : Bytes). ⊥) old new no_memory f tt (inl refl) (inl refl) (inl said))
 
   pub shown_text : (r : Result (Unit {0}) Fault) (text : Bytes) → Says (Ok text) → OnOk r (Appends old new text) → OnOk r ((t : Bytes) × Says (Ok t) × Appends old new t)
   shown_text (Ok x) text says h = (text, says, h)
@@ -163,3 +169,7 @@ only_image bytes e only says (i, answer, same) = rw same (told_image e i (only i
 pub image_only : (bytes : Bytes) (i : Image) → ((j : Result Image ReadError) → IsAnswer bytes j → (Ok i ≡ j) ⊎ (Ok i ≡ Err read.NoMemory)) → (says : Result Bytes Reason) → PrintsImage bytes says →
     says ≡ Ok (image_text i)
 image_only bytes i only says (j, answer, same) = elim (only j answer) [ inl is ↦ same ∙ ap of_image (sym is) | inr e ↦ absurd (cc) ]
+
+pub image_answered : (bytes : Bytes) (i : Image) → (Ok i ≡ Err read.NoMemory) ⊎ IsAnswer bytes (Ok i) → IsAnswer bytes (Ok i)
+image_answered bytes i (inl none) = absurd (cc)
+image_answered bytes i (inr is) = is

@@ -1,5 +1,6 @@
 pub mod CommandLines
 pub mod Commands
+pub mod Failures
 pub mod ImageFiles
 pub mod Instructions
 pub mod LineByLine
@@ -11,6 +12,7 @@ pub mod Showing
 pub mod ThreadOutcomes
 pub mod ThreadRuns
 pub mod Outcomes
+pub mod OutFiles
 pub mod OwnFiles
 pub mod Output
 pub mod Pairs
@@ -19,6 +21,7 @@ pub mod Preambles
 pub mod Reads
 pub mod Reasons
 pub mod Recovering
+pub mod RunFiles
 pub mod Refusing
 pub mod ThreadCommands
 pub mod Values

@@ -9,7 +9,7 @@ None >>= f = None
 (Some x) >>= f = f x
 
 abbrev pub FailsToRead : {Y : Type 0} → Unread → Option Y → Type 0
-FailsToRead Faulty read = read ≡ None
+FailsToRead (Faulty why) read = read ≡ None
 FailsToRead NoMemory read = Unit {0}
 
 -- what a call answers is what is read, want of memory apart

@@ -94,24 +94,26 @@ IsShown bytes text = Prints bytes (Ok text)
 
 -- HOW SHOWING ENDS
 
--- what is answered, and what went out, is what the bytes print, but where a write failed or memory was wanting
+-- what is answered, and what went out, is what the bytes print, but where a write failed or memory was wanting; without memory for a line of a text nothing more is written
 abbrev pub AgreesWithPrint : Result (Unit {0}) Fault → Result Bytes Reason → Option Bytes → Option Bytes → Type 0
 AgreesWithPrint (Ok x) says old new = (text : Bytes) × (says ≡ Ok text) × Appends old new text
-AgreesWithPrint (Err f) says old new = Suits f says
+AgreesWithPrint (Err f) says old new = Suits f says ⊎ ((f ≡ fault.NoMemory) × (text : Bytes) × (says ≡ Ok text))
 
--- a text was stopped: a write failed after a beginning of it; or memory was wanting, and behind a beginning of it that was said
+-- a text broke off: a write failed or memory was wanting, and a beginning of the text is all that went out
+abbrev pub BreaksOff : Bytes → Option Bytes → Option Bytes → Fault → Type 0
+BreaksOff text old new f = ((f ≡ fault.Write) ⊎ (f ≡ fault.NoMemory)) × IsBegun old new text
+
+-- or memory was wanting for its first line, which was said in its place
 abbrev pub StopsIn : Bytes → Option Bytes → Option Bytes → Fault → Type 0
-StopsIn text old new f =
-    ((f ≡ fault.Write) × IsBegun old new text)
-    ⊎ ((middle : Option Bytes) × IsBegun old middle text × IsSaid no_memory middle new f)
+StopsIn text old new f = BreaksOff text old new f ⊎ IsSaid no_memory old new f
 
 module _ (Says : Result Bytes Reason → Type 0) where
   -- want of memory, or why the bytes are refused
   abbrev pub IsShowFault : Fault → Type 0
   IsShowFault = IsRefusal (λ r. Says (Err r))
 
-  -- one line of a fault was written, or a text was stopped that the bytes print
+  -- one line of a fault was written and nothing else, or a text broke off that the bytes print
   abbrev pub EndsShow : Option Bytes → Option Bytes → Fault → Type 0
   EndsShow old new f =
       FailsAs IsShowFault (λ text. ⊥) old new f
-      ⊎ ((text : Bytes) × Says (Ok text) × StopsIn text old new f)
+      ⊎ ((text : Bytes) × Says (Ok text) × BreaksOff text old new f)

@@ -6,6 +6,7 @@ ghost use Rattle.calcdb.specs.Commands as spec;
 ghost use Rattle.calcdb.specs.Lines.{all_pass, words};
 ghost use Rattle.calcdb.specs.Values.{value_of};
 
+use crate::faults::misreads::{Misread, Quote};
 use crate::faults::unread::Unread;
 use crate::instructions::is_word;
 use crate::lines::{end_of, first_word, word_at};
@@ -176,8 +177,10 @@ pub(crate) fn procedure_at<'a, A: Allocator>(
     ensures { ReadsAs (λ p. (p.0, words p.1.now)) result (spec.procedure_at names.now (words line.now)) }
 {
     let (word, rest) = word_at(line)?;
-    let procedure = number_of_name(names, word).ok_or(Unread::Faulty)?;
-    Ok((procedure, rest))
+    match number_of_name(names, word) {
+        Some(procedure) => Ok((procedure, rest)),
+        None => Err(Unread::Faulty(Misread::NoProcedure(Quote::of(word)))),
+    }
 }
 
 /// The values that the words of a line are.
@@ -232,7 +235,7 @@ fn kind_named(word: &[u8]) -> Result<Kind, Unread>
     } else if is_word(word, b"partial") {
         Ok(Kind::Partial)
     } else {
-        Err(Unread::Faulty)
+        Err(Unread::Faulty(Misread::NoKind(Quote::of(word))))
     }
 }
 
@@ -286,7 +289,7 @@ fn command_name(word: &[u8]) -> Result<CommandName, Unread>
     } else if is_word(word, b"abandon") {
         Ok(CommandName::Abandon)
     } else {
-        Err(Unread::Faulty)
+        Err(Unread::Faulty(Misread::NoCommand(Quote::of(word))))
     }
 }
 

@@ -38,7 +38,7 @@ pub(crate) fn refuse_script<W: Write, A: Allocator + Clone>(
     ensures { RefusesScript fault (W.contents writer.old) (W.contents writer.new) result }
 {
     match fault {
-        ScriptFault::Line(number) => write_fault(alloc, writer, Fault::Line(number)),
+        ScriptFault::Line(faulty) => write_fault(alloc, writer, Fault::Line(faulty)),
         ScriptFault::Size => write_fault(alloc, writer, Fault::Size),
         ScriptFault::NoMemory => Fault::NoMemory,
     }

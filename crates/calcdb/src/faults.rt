@@ -1,14 +1,18 @@
 //! Why a command of the program ends early. How that is said on standard output is in `refusals`, how on
-//! standard error in `failures`, and why a line isn't read in `unread`.
+//! standard error in `failures`, and why a line isn't read in `unread` and `misreads`, and
+//! which files a refusal is of in `subjects`.
 
 ghost use Rattle.std.specs.Prelude.{◌≡◌, Some};
 ghost use Rattle.calcdb.specs.declared.faults.Fault.TheVariants as fault;
 ghost use Rattle.calcdb.specs.declared.faults.Reason.TheVariants as reason;
 
 pub(crate) mod failures;
+pub(crate) mod misreads;
 pub(crate) mod refusals;
+pub(crate) mod subjects;
 pub(crate) mod unread;
 
+use crate::faults::misreads::FaultyLine;
 use crate::scripts::ScriptFault;
 use commitlog::LogError;
 use image::{MergeError, ReadError};
@@ -30,8 +34,8 @@ pub(crate) enum Fault {
     #[error("no memory")]
     NoMemory,
     /// The first faulty line of a text.
-    #[error("fault line {0}")]
-    Line(u64),
+    #[error("fault line {}", .0.number)]
+    Line(FaultyLine),
     /// The text has over 4,194,304 bytes.
     #[error("fault size")]
     Size,
@@ -47,7 +51,7 @@ impl From<ScriptFault> for Fault {
     /// The fault of a text; out of memory for it is said in a line.
     fn from(fault: ScriptFault) -> Self {
         match fault {
-            ScriptFault::Line(number) => Fault::Line(number),
+            ScriptFault::Line(faulty) => Fault::Line(faulty),
             ScriptFault::Size => Fault::Size,
             ScriptFault::NoMemory => Fault::Refused(Reason::NoMemory),
         }

@@ -3,7 +3,7 @@
 use crate::faults::failures::{Failure, OutFile};
 use crate::new_files::begin;
 use crate::progress::{CountedFiles, Progress};
-use image::{Image, WriteError, seal_to};
+use image::{Image, seal_to};
 use std::alloc::Allocator;
 use std::fs;
 use std::io::{self, ErrorKind, Read, Write};
@@ -114,20 +114,6 @@ pub(crate) fn flush<'a, W: Write>(writer: &mut W, failure: Failure<'a>) -> Resul
     writer.flush().map_err(|_| failure)
 }
 
-/// Writes an image's bytes to what stands for the file, and sees that they are out.
-pub(crate) fn write_sealed<'a, W: Write, A: Allocator>(
-    alloc: A,
-    writer: &mut W,
-    file: OutFile<'a>,
-    image: &Image<A>,
-) -> Result<(), Failure<'a>> {
-    match seal_to(alloc, writer, image) {
-        Ok(()) => flush(writer, Failure::CannotWrite(file)),
-        Err(WriteError::WriteFault) => Err(Failure::CannotWrite(file)),
-        Err(WriteError::NoMemory) => Err(Failure::NoMemory),
-    }
-}
-
 /// Makes a file of an image's bytes.
 pub(crate) fn write_image<'a, R: Files, A: Allocator + Copy>(
     alloc: A,
@@ -138,7 +124,7 @@ pub(crate) fn write_image<'a, R: Files, A: Allocator + Copy>(
 where
     R::File: Drop,
 {
-    let mut new = begin(alloc, rt, file)?;
-    let written = write_sealed(alloc, &mut new, file, image);
-    new.end(rt, written)
+    let (new, mut bytes) = begin(alloc, rt, file)?;
+    let written = seal_to(alloc, &mut bytes, image);
+    new.end(rt, bytes, written)
 }

@@ -1,11 +1,12 @@
 //! Lines of procedures: operands and instructions.
 
-ghost use Rattle.std.specs.Prelude.{◌≡◌, ◌≤◌, ◌<◌, ℕ, IfOk, None};
+ghost use Rattle.std.specs.Prelude.{◌≡◌, ◌≤◌, ◌<◌, ℕ, IfOk, IfSome, None};
 ghost use Rattle.procedure.specs.Catalogs.{instruction_fault, operand_fault, pair_fault, register_fault, test_fault};
 ghost use Rattle.calcdb.specs.Reads.{ReadsAs};
 ghost use Rattle.calcdb.specs.Instructions as spec;
 ghost use Rattle.calcdb.specs.Lines.{words};
 
+use crate::faults::misreads::{Misread, Quote};
 use crate::faults::unread::Unread;
 use crate::lines::{end_of, word_at};
 use crate::values::{decimal_of, value_of};
@@ -59,7 +60,7 @@ fn verb_of(word: &[u8]) -> Result<Verb, Unread>
     } else if is_word(word, b"abort") {
         Ok(Verb::Abort)
     } else {
-        Err(Unread::Faulty)
+        Err(Unread::Faulty(Misread::NoInstruction(Quote::of(word))))
     }
 }
 
@@ -73,7 +74,7 @@ fn test_of(word: &[u8]) -> Result<TestName, Unread>
     } else if is_word(word, b"below") {
         Ok(TestName::Below)
     } else {
-        Err(Unread::Faulty)
+        Err(Unread::Faulty(Misread::NoTest(Quote::of(word))))
     }
 }
 
@@ -92,14 +93,14 @@ fn test_at(line: &[u8]) -> Result<(TestName, &[u8]), Unread>
 }
 
 /// The index that one digit is, below the count.
-fn index_of(count: u8, word: &[u8]) -> Result<u8, Unread>
+fn index_of(count: u8, word: &[u8]) -> Option<u8>
     requires { count ≤ 8 }
-    ensures value { ReadsAs (λ i. i) result (spec.index_of count word.now) }
-    ensures lawful { IfOk result (λ i. i < count) }
+    ensures value { result ≡ spec.index_of count word.now }
+    ensures lawful { IfSome result (λ i. i < count) }
 {
     match word {
-        [digit] if *digit >= b'0' && *digit < b'0' + count => Ok(*digit - b'0'),
-        _ => Err(Unread::Faulty),
+        [digit] if *digit >= b'0' && *digit < b'0' + count => Some(*digit - b'0'),
+        _ => None,
     }
 }
 
@@ -107,10 +108,11 @@ fn register_of(word: &[u8]) -> Result<u8, Unread>
     ensures value { ReadsAs (λ r. r) result (spec.register_of word.now) }
     ensures lawful { IfOk result (λ r. register_fault r ≡ None) }
 {
-    match word {
+    let index = match word {
         [b'r', index @ ..] => index_of(REGISTERS as u8, index),
-        _ => Err(Unread::Faulty),
-    }
+        _ => None,
+    };
+    index.ok_or(Unread::Faulty(Misread::NoRegister(Quote::of(word))))
 }
 
 fn register_at(line: &[u8]) -> Result<(u8, &[u8]), Unread>
@@ -127,13 +129,11 @@ fn literal_of<A: Allocator>(alloc: A, word: &[u8]) -> Result<Operand<Value<A>>, 
     ensures lawful { (arity : ℕ) → IfOk result (λ o. operand_fault arity o ≡ None) }
 {
     let bytes = value_of(alloc, word)?;
+    let long = Unread::Faulty(Misread::LongValue(Quote::of(word), LITERAL_BYTES));
     if bytes.len() > LITERAL_BYTES {
-        return Err(Unread::Faulty);
+        return Err(long);
     }
-    match Value::new(bytes) {
-        Some(value) => Ok(Operand::Lit(value)),
-        None => Err(Unread::Faulty),
-    }
+    Ok(Operand::Lit(Value::new(bytes).ok_or(long)?))
 }
 
 /// An argument below the arity, a register, or a literal.
@@ -143,9 +143,12 @@ fn operand_of<A: Allocator>(alloc: A, arity: u8, word: &[u8]) -> Result<Operand<
     ensures lawful { IfOk result (λ o. operand_fault arity o ≡ None) }
 {
     match word {
-        [] => Err(Unread::Faulty),
-        [b'$', index @ ..] => Ok(Operand::Arg(index_of(arity, index)?)),
-        [b'r', index @ ..] => Ok(Operand::Reg(index_of(REGISTERS as u8, index)?)),
+        [] => Err(Unread::Faulty(Misread::MissingWord)),
+        [b'$', index @ ..] => match index_of(arity, index) {
+            Some(index) => Ok(Operand::Arg(index)),
+            None => Err(Unread::Faulty(Misread::NoArgument(Quote::of(word)))),
+        },
+        [b'r', ..] => Ok(Operand::Reg(register_of(word)?)),
         [_, ..] => literal_of(alloc, word),
     }
 }
@@ -171,7 +174,7 @@ fn code_of(word: &[u8]) -> Result<u8, Unread>
 {
     let code = decimal_of(255, word)? as u8;
     if code < FIRST_ABORT {
-        return Err(Unread::Faulty);
+        return Err(Unread::Faulty(Misread::NoCode(Quote::of(word))));
     }
     Ok(code)
 }

@@ -6,6 +6,7 @@ ghost use Rattle.calcdb.specs.Lines.{left_lines, lines};
 ghost use Rattle.calcdb.specs.declared.scripts.ScriptFault.TheVariants as fault;
 ghost use Rattle.calcdb.specs.declared.scripts.TheConstants.{SCRIPT_BYTES};
 
+use crate::faults::misreads::FaultyLine;
 use crate::faults::unread::Unread;
 use crate::lines::{line_at, without_return};
 use crate::scripts::ScriptFault;
@@ -38,7 +39,7 @@ fn read_next<'a, S: LineReader>(
     let (line, behind) = line_at(text);
     match said.read_line(without_return(line)) {
         Ok(()) => Ok(behind),
-        Err(Unread::Faulty) => Err(ScriptFault::Line(number)),
+        Err(Unread::Faulty(why)) => Err(ScriptFault::Line(FaultyLine { number, why })),
         Err(Unread::NoMemory) => Err(ScriptFault::NoMemory),
     }
 }

@@ -5,6 +5,7 @@ ghost use Rattle.calcdb.specs.Reads.{ReadsAs};
 ghost use Rattle.calcdb.specs.Lines as spec;
 ghost use Rattle.calcdb.specs.Lines.{left_pieces, pieces, words};
 
+use crate::faults::misreads::{Misread, Quote};
 use crate::faults::unread::Unread;
 
 fn is_line_feed(byte: u8) -> bool
@@ -97,7 +98,7 @@ pub(crate) fn first_word(line: &[u8]) -> Option<(&[u8], &[u8])>
 pub(crate) fn word_at(line: &[u8]) -> Result<(&[u8], &[u8]), Unread>
     ensures { ReadsAs (λ p. (p.0.now, words p.1.now)) result (spec.first_word (words line.now)) }
 {
-    first_word(line).ok_or(Unread::Faulty)
+    first_word(line).ok_or(Unread::Faulty(Misread::MissingWord))
 }
 
 /// Nothing, where no word is left.
@@ -105,7 +106,7 @@ pub(crate) fn end_of(line: &[u8]) -> Result<(), Unread>
     ensures { ReadsAs (λ p. p) result (spec.no_word (words line.now)) }
 {
     match first_word(line) {
-        Some(_) => Err(Unread::Faulty),
+        Some((word, _)) => Err(Unread::Faulty(Misread::MoreWords(Quote::of(word)))),
         None => Ok(()),
     }
 }

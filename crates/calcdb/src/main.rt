@@ -11,6 +11,7 @@
 mod command_line;
 mod commands;
 mod core_audits;
+mod digesting;
 mod engine;
 mod faults;
 mod files;
@@ -22,6 +23,7 @@ mod lines;
 mod looking;
 mod merge_files;
 mod new_files;
+mod other_images;
 mod output;
 mod pairs;
 mod plans;
@@ -33,6 +35,7 @@ mod run;
 mod run_folder;
 mod scripts;
 mod show;
+mod tasks;
 #[cfg(test)]
 mod tests;
 mod thread_commands;

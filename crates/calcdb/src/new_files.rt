@@ -1,15 +1,23 @@
 //! Files that take their name when they are whole. A full disk, a refused growth or a stop in the middle of a
 //! write leaves what had the name before.
 
-use crate::faults::failures::{Failure, OutFile};
+ghost use Rattle.std.specs.Prelude.{◌≡◌, IfOk, None, Ok};
+
+use crate::digesting::Telling;
+use crate::faults::failures::{Failure, OutFile, RunFile};
+use crate::run_folder::RunFolder;
+use procedure::streams::WriteError;
 use std::alloc::Allocator;
 use std::fs::{self, File, OpenFile, Permissions};
-use std::io::{self, ErrorKind, Write};
+use std::io::{self, BufWriter, ErrorKind, Write};
 use std::rt::Files;
 
 /// How many names are tried for the bytes of a file that isn't whole. One is in use where another program
 /// writes into the folder, or was killed there.
 const NAMES: u32 = 100;
+
+/// Bytes that are gathered before a file gets them.
+const GATHERED: usize = 65_536;
 
 /// What has the name of a file that is to be made.
 #[derive(Drop)]
@@ -20,11 +28,16 @@ enum Target<A: Allocator> {
     InPlace(String<A>),
 }
 
-/// A file that is being made.
+/// The bytes of a file that is being made.
 #[derive(Drop)]
-pub(crate) struct NewFile<'a, F: Drop, A: Allocator> {
+pub(crate) struct NewFile<F: Write + Drop, A: Allocator> {
+    bytes: BufWriter<F, A>,
+}
+
+/// The name that a file takes when it is made.
+#[derive(Drop)]
+pub(crate) struct NewName<'a, A: Allocator> {
     name: OutFile<'a>,
-    file: F,
     renaming: Option<Renaming<A>>,
 }
 
@@ -35,14 +48,20 @@ struct Renaming<A: Allocator> {
     target: String<A>,
 }
 
-impl<F: Write + Drop, A: Allocator> Write for NewFile<'_, F, A> {
+impl<F: Write + Drop, A: Allocator> Write for NewFile<F, A> {
     fn write(&mut self, buf: &[u8]) -> io::Result<usize> {
-        self.file.write(buf)
+        self.bytes.write(buf)
     }
 
     fn flush(&mut self) -> io::Result<()> {
-        self.file.flush()
+        self.bytes.flush()
     }
+}
+
+impl<F: Write + Drop, A: Allocator> Telling for NewFile<F, A> {
+    ghost use Rattle.std.proofs.Common.{refl};
+
+    ghost unknown = { λ _ _ _. refl };
 }
 
 /// What a symbolic link leads to.
@@ -107,34 +126,66 @@ where
     Err(Failure::CannotWrite(name))
 }
 
+/// A file that gets its bytes many at once.
+fn gathering<'a, F: Write + Drop, A: Allocator>(
+    alloc: A,
+    file: F,
+) -> Result<NewFile<F, A>, Failure<'a>> {
+    match BufWriter::with_capacity(alloc, GATHERED, file) {
+        Ok(bytes) => Ok(NewFile { bytes }),
+        Err(_) => Err(Failure::NoMemory),
+    }
+}
+
+/// A file that has begun: the name that it takes, and its bytes.
+type Begun<'a, F, A> = (NewName<'a, A>, NewFile<F, A>);
+
 /// Begins a file of this name. Where a regular file has it, or nothing, the bytes go to a new file in the same
 /// folder until it is finished, which has that one's permissions; else they go where the name leads.
 pub(crate) fn begin<'a, R: Files, A: Allocator + Copy>(
     alloc: A,
     rt: &R,
     name: OutFile<'a>,
-) -> Result<NewFile<'a, R::File, A>, Failure<'a>>
+) -> Result<Begun<'a, R::File, A>, Failure<'a>>
 where
     R::File: Drop,
 {
-    match target_of(alloc, rt, name)? {
-        Target::InPlace(path) => match fs::create(rt, path.as_str()) {
-            Ok(file) => Ok(NewFile {
-                name,
-                file,
-                renaming: None,
-            }),
-            Err(_) => Err(Failure::CannotWrite(name)),
-        },
-        Target::Replaced(target, permissions) => {
-            let (file, beside) = make_beside(alloc, rt, name, target.as_str())?;
-            let new = NewFile {
-                name,
-                file,
-                renaming: Some(Renaming { beside, target }),
+    let (target, permissions) = match target_of(alloc, rt, name)? {
+        Target::InPlace(path) => {
+            let Ok(file) = fs::create(rt, path.as_str()) else {
+                return Err(Failure::CannotWrite(name));
             };
-            new.permitted(rt, permissions)
+            let renaming = None;
+            return Ok((NewName { name, renaming }, gathering(alloc, file)?));
         }
+        Target::Replaced(target, permissions) => (target, permissions),
+    };
+    let (file, beside) = make_beside(alloc, rt, name, target.as_str())?;
+    let renaming = Some(Renaming { beside, target });
+    let new = NewName { name, renaming };
+    match permitted(alloc, name, file, permissions) {
+        Ok(file) => Ok((new, file)),
+        Err(failure) => {
+            new.discard(rt);
+            Err(failure)
+        }
+    }
+}
+
+/// The bytes of a file with these permissions.
+fn permitted<'a, F: OpenFile + Write + Drop, A: Allocator>(
+    alloc: A,
+    name: OutFile<'a>,
+    file: F,
+    permissions: Option<Permissions>,
+) -> Result<NewFile<F, A>, Failure<'a>> {
+    let set = match permissions {
+        Some(permissions) => file.set_permissions(permissions),
+        None => Ok(()),
+    };
+    match set {
+        Ok(()) => gathering(alloc, file),
+        Err(_) => Err(Failure::CannotWrite(name)),
     }
 }
 
@@ -146,52 +197,32 @@ fn sync_folder<R: Files>(rt: &R, folder: &str) {
     }
 }
 
-impl<'a, F: OpenFile + Drop, A: Allocator> NewFile<'a, F, A> {
-    /// The file with these permissions.
-    fn permitted<R: Files>(
-        self,
-        rt: &R,
-        permissions: Option<Permissions>,
-    ) -> Result<Self, Failure<'a>> {
-        let set = match permissions {
-            Some(permissions) => self.file.set_permissions(permissions),
-            None => Ok(()),
-        };
-        match set {
-            Ok(()) => Ok(self),
-            Err(_) => {
-                let failure = Failure::CannotWrite(self.name);
-                self.discard(rt);
-                Err(failure)
-            }
-        }
-    }
-
+impl<'a, A: Allocator> NewName<'a, A> {
     /// Removes what was written, where it has no name of its own yet.
     fn discard<R: Files>(self, rt: &R) {
-        let NewFile {
-            name: _,
-            file,
-            renaming,
-        } = self;
-        drop(file);
-        if let Some(Renaming { beside, target: _ }) = renaming {
+        if let Some(Renaming { beside, target: _ }) = self.renaming {
             let _ = fs::remove_file(rt, beside.as_str());
         }
     }
 
-    /// Gives the file its name, once its bytes are on disk.
-    fn finish<R: Files>(self, rt: &R) -> Result<(), Failure<'a>> {
-        let NewFile {
-            name,
-            file,
-            renaming,
-        } = self;
+    /// Gives a file its name, once its bytes are on disk.
+    fn finish<R: Files, F: OpenFile + Write + Drop>(
+        self,
+        rt: &R,
+        mut file: NewFile<F, A>,
+    ) -> Result<(), Failure<'a>> {
+        let NewName { name, renaming } = self;
+        let is_out = file.flush().is_ok();
         let Some(Renaming { beside, target }) = renaming else {
-            return Ok(());
+            return if is_out {
+                Ok(())
+            } else {
+                Err(Failure::CannotWrite(name))
+            };
         };
         let (beside, target) = (beside.as_str(), target.as_str());
-        if file.sync_all().is_ok() && fs::rename(rt, beside, target).is_ok() {
+        let is_on_disk = is_out && file.bytes.get_ref().sync_all().is_ok();
+        if is_on_disk && fs::rename(rt, beside, target).is_ok() {
             sync_folder(rt, folder_of(target));
             return Ok(());
         }
@@ -199,21 +230,66 @@ impl<'a, F: OpenFile + Drop, A: Allocator> NewFile<'a, F, A> {
         Err(Failure::CannotWrite(name))
     }
 
-    /// Ends the file: it is finished where all was written to it, and else removed.
-    pub(crate) fn end<R: Files, T: Drop>(
+    /// Ends a file: it is finished where all was written to it, and else removed.
+    pub(crate) fn end<R: Files, F: OpenFile + Write + Drop, T: Drop>(
         self,
         rt: &R,
-        written: Result<T, Failure<'a>>,
-    ) -> Result<T, Failure<'a>> {
+        file: NewFile<F, A>,
+        written: Result<T, WriteError>,
+    ) -> Result<T, Failure<'a>>
+        ensures { IfOk result (λ value. written ≡ Ok value) }
+    {
         match written {
             Ok(value) => {
-                self.finish(rt)?;
+                self.finish(rt, file)?;
                 Ok(value)
             }
-            Err(failure) => {
+            Err(unwritten) => {
+                drop(file);
+                let failure = match unwritten {
+                    WriteError::WriteFault => Failure::CannotWrite(self.name),
+                    WriteError::NoMemory => Failure::NoMemory,
+                };
                 self.discard(rt);
                 Err(failure)
             }
         }
+    }
+}
+
+/// A folder of files that take their names when they are whole.
+#[derive(Clone, Copy)]
+pub(crate) struct NewFolder<'a, A: Allocator> {
+    pub alloc: A,
+    pub path: &'a str,
+}
+
+impl<'a, R: Files, A: Allocator + Copy> RunFolder<R> for NewFolder<'a, A>
+where
+    R::File: Drop,
+{
+    type Failure = Failure<'a>;
+
+    type Place = NewName<'a, A>;
+
+    type File = NewFile<R::File, A>;
+
+    // What a disk holds isn't known.
+    ghost made = { λ _. None };
+
+    ghost takes = { λ _ _. Unit {0} };
+
+    fn begin(&mut self, rt: &R, name: RunFile) -> Result<(Self::Place, Self::File), Failure<'a>> {
+        begin(self.alloc, rt, OutFile::InFolder(self.path, name))
+    }
+
+    fn end<T: Drop>(
+        &mut self,
+        rt: &R,
+        place: Self::Place,
+        file: Self::File,
+        written: Result<T, WriteError>,
+    ) -> Result<T, Failure<'a>> {
+        place.end(rt, file, written)
     }
 }

@@ -12,6 +12,7 @@ ghost use Rattle.calcdb.specs.Pairs as spec;
 ghost use Rattle.calcdb.specs.Pairs.{EndsLoad, image_of_pairs};
 ghost use Rattle.calcdb.specs.Reads.{ReadsAs};
 
+use crate::faults::misreads::Misread;
 use crate::faults::refusals::{refuse, write_header};
 use crate::faults::unread::Unread;
 use crate::faults::{Fault, Reason};
@@ -66,8 +67,11 @@ impl<A: Allocator + Clone> Pairs<A> {
     fn add(&mut self, key: Key, held: Value<A>) -> Result<(), Unread>
         ensures { ReadsAs (λ _. self.new) result (spec.with_pair self.old (key, held)) }
     {
-        if self.table.len() >= ENTRIES || self.table.get(&key).is_some() {
-            return Err(Unread::Faulty);
+        if self.table.len() >= ENTRIES {
+            return Err(Unread::Faulty(Misread::ManyPairs));
+        }
+        if self.table.get(&key).is_some() {
+            return Err(Unread::Faulty(Misread::SameKey));
         }
         self.table.insert(key, held)?;
         Ok(())
@@ -90,7 +94,7 @@ impl<A: Allocator + Clone> LineReader for Pairs<A> {
 
     fn read_line(&mut self, line: &[u8]) -> Result<(), Unread> {
         if !is_allowed(line) {
-            return Err(Unread::Faulty);
+            return Err(Unread::Faulty(Misread::Byte));
         }
         self.read_words(line)
     }

@@ -13,6 +13,7 @@ ghost use Rattle.calcdb.specs.declared.scripts.ScriptFault.TheVariants as fault;
 ghost use Rattle.calcdb.specs.declared.scripts.TheConstants.{SCRIPT_BYTES};
 
 use crate::commands::{Names, is_name, number_of_name};
+use crate::faults::misreads::{FaultyLine, Misread, Quote};
 use crate::faults::unread::Unread;
 use crate::instructions::{instruction_of, is_word};
 use crate::lines::{end_of, first_word, is_allowed, is_skipped, line_at, without_return, word_at};
@@ -65,7 +66,7 @@ impl<A: Allocator + Clone> Block<A> {
             mut code,
         } = self;
         if code.len() >= INSTRUCTIONS {
-            return Err(Unread::Faulty);
+            return Err(Unread::Faulty(Misread::ManyInstructions));
         }
         let alloc = code.allocator().clone()?;
         code.push(instruction_of(alloc, arity, line)?)?;
@@ -145,10 +146,12 @@ fn new_name<'a, A: Allocator>(
     ensures name { IfOk result (λ p. is_name p.0.now ≡ true) }
 {
     let (word, rest) = word_at(line)?;
-    if is_name(word) && number_of_name(names, word).is_none() {
-        Ok((word, rest))
-    } else {
-        Err(Unread::Faulty)
+    if !is_name(word) {
+        return Err(Unread::Faulty(Misread::NoName(Quote::of(word))));
+    }
+    match number_of_name(names, word) {
+        Some(_) => Err(Unread::Faulty(Misread::SameName(Quote::of(word)))),
+        None => Ok((word, rest)),
     }
 }
 
@@ -174,7 +177,7 @@ fn heading_of<A: Allocator>(names: &Names<A>, line: &[u8]) -> Result<(Key, u8), 
     let arity = arity_of(rest)?;
     match Key::new(name) {
         Some(key) => Ok((key, arity)),
-        None => Err(Unread::Faulty),
+        None => Err(Unread::Faulty(Misread::NoName(Quote::of(name)))),
     }
 }
 
@@ -201,7 +204,7 @@ impl<A: Allocator + Clone> Said<A> {
     {
         let (name, arity) = heading_of(&self.names, line)?;
         if self.procedures.len() >= PROCEDURES {
-            return Err(Unread::Faulty);
+            return Err(Unread::Faulty(Misread::ManyProcedures));
         }
         let alloc = self.allocator().clone()?;
         self.names.insert(name, self.procedures.len() as u16)?;
@@ -252,7 +255,7 @@ impl<A: Allocator + Clone> Said<A> {
         ensures { ReadsAs (λ _. self.new) result (spec.said_after_line self.old number line.now) }
     {
         if !is_allowed(line) {
-            return Err(Unread::Faulty);
+            return Err(Unread::Faulty(Misread::Byte));
         }
         self.read_words(number, line)
     }
@@ -286,7 +289,7 @@ impl<A: Allocator + Clone> Said<A> {
             block,
         } = self;
         match block {
-            Some(block) => Err(ScriptFault::Line(block.line)),
+            Some(block) => Err(ScriptFault::Line(unended(block.line))),
             None => match Catalog::new(Sequence::new(procedures)) {
                 Ok(catalog) => Ok(Preamble {
                     names,
@@ -297,6 +300,16 @@ impl<A: Allocator + Clone> Said<A> {
                 Err(_) => unreachable!(),
             },
         }
+    }
+}
+
+/// The line of this number, which begins a block without an end.
+fn unended(number: u64) -> FaultyLine
+    ensures { result ≡ number }
+{
+    FaultyLine {
+        number,
+        why: Misread::NoEnd,
     }
 }
 
@@ -316,12 +329,12 @@ fn block_ends(text: Option<&[u8]>) -> bool
 }
 
 /// The first faulty line, where this one is faulty.
-fn blamed(first: Option<u64>, number: u64, behind: Option<&[u8]>) -> u64
-    ensures { result ≡ spec.blamed first number (left_lines (option_map (λ t. t.now) behind.entry)) }
+fn blamed(first: Option<u64>, faulty: FaultyLine, behind: Option<&[u8]>) -> FaultyLine
+    ensures { result ≡ spec.blamed first faulty (left_lines (option_map (λ t. t.now) behind.entry)) }
 {
     match first {
-        Some(first) if !block_ends(behind) => first,
-        _ => number,
+        Some(first) if !block_ends(behind) => unended(first),
+        _ => faulty,
     }
 }
 
@@ -340,7 +353,10 @@ fn read_next<A: Allocator + Clone>(
     let first = said.open_line();
     match said.read_line(number, line) {
         Ok(()) => Ok(()),
-        Err(Unread::Faulty) => Err(ScriptFault::Line(blamed(first, number, behind))),
+        Err(Unread::Faulty(why)) => {
+            let faulty = FaultyLine { number, why };
+            Err(ScriptFault::Line(blamed(first, faulty, behind)))
+        }
         Err(Unread::NoMemory) => Err(ScriptFault::NoMemory),
     }
 }

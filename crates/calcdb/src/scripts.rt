@@ -10,6 +10,7 @@ ghost use Rattle.calcdb.specs.Scripts as spec;
 ghost use Rattle.calcdb.specs.declared.scripts.ScriptFault.TheVariants as fault;
 
 use crate::commands::{Arguments, Command, Names, ReadCommand};
+use crate::faults::misreads::{FaultyLine, Misread};
 use crate::faults::unread::Unread;
 use crate::line_by_line::{LineReader, read_lines};
 use crate::lines::{is_allowed, is_skipped};
@@ -23,10 +24,9 @@ use std::marker::Model;
 pub(crate) const SCRIPT_BYTES: usize = 4_194_304;
 
 /// Why a text is no script, or no text of pairs.
-#[derive(Clone, Copy, Debug, PartialEq, Eq)]
+#[derive(Debug, Drop)]
 pub(crate) enum ScriptFault {
-    /// The first faulty line, counted from 1.
-    Line(u64),
+    Line(FaultyLine),
     /// Over 4,194,304 bytes.
     Size,
     NoMemory,
@@ -87,7 +87,7 @@ impl<C: ReadCommand<A> + Drop, A: Allocator + Clone> LineReader for Commands<C, 
 
     fn read_line(&mut self, line: &[u8]) -> Result<(), Unread> {
         if !is_allowed(line) {
-            return Err(Unread::Faulty);
+            return Err(Unread::Faulty(Misread::Byte));
         }
         self.read_words(line)
     }

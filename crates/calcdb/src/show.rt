@@ -7,7 +7,7 @@ ghost use Rattle.procedure.specs.Bytes.{Bytes};
 ghost use Rattle.commitlog.specs.Records.{Token, record_of};
 ghost use Rattle.calcdb.specs.Output.{entries_text, entry_text, image_text};
 ghost use Rattle.calcdb.specs.Showing as spec;
-ghost use Rattle.calcdb.specs.Showing.{AgreesWithPrint, HasLogMagic, EndsShow, IsShown, Prints, PrintsImage, PrintsLog, StopsIn, log_text};
+ghost use Rattle.calcdb.specs.Showing.{AgreesWithPrint, BreaksOff, HasLogMagic, EndsShow, IsShown, Prints, PrintsImage, PrintsLog, StopsIn, log_text};
 ghost use Rattle.calcdb.specs.declared.faults.Reason.{Reason};
 
 use crate::faults::refusals::{refuse, say_no_memory, write_header, write_line};
@@ -146,12 +146,12 @@ fn write_record<W: Write, A: Allocator + Clone, B: Allocator>(
     found: &Record<B>,
 ) -> Result<(), Fault>
     ensures ok { OnOk result (Appends (W.contents writer.old) (W.contents writer.new) (spec.record_text place found.now)) }
-    ensures err { IfErr result (λ f. StopsIn (spec.record_text place found.now) (W.contents writer.old) (W.contents writer.new) f) }
+    ensures err { IfErr result (λ f. BreaksOff (spec.record_text place found.now) (W.contents writer.old) (W.contents writer.new) f) }
 {
     line.clear();
     match push_record(line, place, found) {
         Ok(()) => write_line(writer, line.as_slice()),
-        Err(NoMemory) => Err(say_no_memory(writer)),
+        Err(NoMemory) => Err(Fault::NoMemory),
     }
 }
 
@@ -162,7 +162,7 @@ fn write_records<W: Write, A: Allocator + Clone, B: Allocator>(
     records: &[Record<B>],
 ) -> Result<(), Fault>
     ensures ok { OnOk result (Appends (W.contents writer.old) (W.contents writer.new) (spec.records_text 0 records.now)) }
-    ensures err { IfErr result (λ f. StopsIn (spec.records_text 0 records.now) (W.contents writer.old) (W.contents writer.new) f) }
+    ensures err { IfErr result (λ f. BreaksOff (spec.records_text 0 records.now) (W.contents writer.old) (W.contents writer.new) f) }
 {
     for (place, found) in records.iter().enumerate() {
         write_record(writer, line, place, found)?;
@@ -192,12 +192,12 @@ fn write_entry<W: Write, A: Allocator + Clone, B: Allocator>(
     entry: &Entry<B>,
 ) -> Result<(), Fault>
     ensures ok { OnOk result (Appends (W.contents writer.old) (W.contents writer.new) (entry_text entry.now)) }
-    ensures err { IfErr result (λ f. StopsIn (entry_text entry.now) (W.contents writer.old) (W.contents writer.new) f) }
+    ensures err { IfErr result (λ f. BreaksOff (entry_text entry.now) (W.contents writer.old) (W.contents writer.new) f) }
 {
     line.clear();
     match push_entry(line, entry) {
         Ok(()) => write_line(writer, line.as_slice()),
-        Err(NoMemory) => Err(say_no_memory(writer)),
+        Err(NoMemory) => Err(Fault::NoMemory),
     }
 }
 
@@ -208,7 +208,7 @@ fn write_entries<W: Write, A: Allocator + Clone, B: Allocator>(
     entries: &[Entry<B>],
 ) -> Result<(), Fault>
     ensures ok { OnOk result (Appends (W.contents writer.old) (W.contents writer.new) (entries_text entries.now)) }
-    ensures err { IfErr result (λ f. StopsIn (entries_text entries.now) (W.contents writer.old) (W.contents writer.new) f) }
+    ensures err { IfErr result (λ f. BreaksOff (entries_text entries.now) (W.contents writer.old) (W.contents writer.new) f) }
 {
     for entry in entries {
         write_entry(writer, line, entry)?;
@@ -276,8 +276,9 @@ fn begins_log(bytes: &[u8]) -> bool
 }
 
 /// Writes what bytes say, line by line: a log where they begin as one, and else an image. Bytes that are
-/// neither are refused with one line. Where there is no memory, a line says so, after the lines that went
-/// out. A write that fails, by an interruption too, and a write of no byte end it.
+/// neither are refused with one line; so is a first line that there is no memory for. Without memory for a
+/// later one nothing more is written. A write that fails, by an interruption too, and a write of no byte
+/// end it.
 pub(crate) fn show<W: Write, A: Allocator + Copy>(
     alloc: A,
     bytes: &[u8],

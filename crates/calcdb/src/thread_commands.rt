@@ -7,6 +7,7 @@ ghost use Rattle.calcdb.specs.ThreadCommands as spec;
 ghost use Rattle.calcdb.specs.Values.{held_value_of};
 
 use crate::commands::{Names, NewCall, ReadCommand, kind_of, number_at, procedure_at, session_at};
+use crate::faults::misreads::{Misread, Quote};
 use crate::faults::unread::Unread;
 use crate::instructions::is_word;
 use crate::lines::{end_of, first_word, word_at};
@@ -94,7 +95,7 @@ fn command_name(word: &[u8]) -> Result<ThreadCommandName, Unread>
     } else if is_word(word, b"view") {
         Ok(ThreadCommandName::View)
     } else {
-        Err(Unread::Faulty)
+        Err(Unread::Faulty(Misread::NoCommand(Quote::of(word))))
     }
 }
 

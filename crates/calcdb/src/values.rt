@@ -1,46 +1,54 @@
 //! Decimals and values.
 
-ghost use Rattle.std.specs.Prelude.{◌≡◌, ◌≤◌, ◌+◌, ◌*◌, IfOk};
+ghost use Rattle.std.specs.Prelude.{◌≡◌, ◌≤◌, ◌+◌, ◌*◌, IfOk, IfSome};
 ghost use Rattle.calcdb.specs.Reads.{ReadsAs};
 ghost use Rattle.calcdb.specs.Values as spec;
 
+use crate::faults::misreads::{Misread, Quote};
 use crate::faults::unread::Unread;
 use byteorder::{BigEndian, ByteOrder};
+use procedure::limits::VALUE_BYTES;
 use procedure::{Key, Value};
 use std::alloc::Allocator;
 
-fn digit_of(byte: u8) -> Result<u64, Unread>
-    ensures { ReadsAs (λ d. d) result (spec.digit_of byte) }
+fn digit_of(byte: u8) -> Option<u64>
+    ensures { result ≡ spec.digit_of byte }
 {
     match byte {
-        b'0'..=b'9' => Ok(u64::from(byte - b'0')),
-        _ => Err(Unread::Faulty),
+        b'0'..=b'9' => Some(u64::from(byte - b'0')),
+        _ => None,
     }
 }
 
 /// A number with one digit more, unless it is too great.
-fn appended(most: u64, number: u64, digit: u64) -> Result<u64, Unread>
-    ensures { ReadsAs (λ n. n) result (spec.at_most most (number * 10 + digit)) }
+fn appended(most: u64, number: u64, digit: u64) -> Option<u64>
+    ensures { result ≡ spec.at_most most (number * 10 + digit) }
 {
     match number.checked_mul(10) {
         Some(tenfold) => match tenfold.checked_add(digit) {
-            Some(next) if next <= most => Ok(next),
-            _ => Err(Unread::Faulty),
+            Some(next) if next <= most => Some(next),
+            _ => None,
         },
-        None => Err(Unread::Faulty),
+        None => None,
     }
 }
 
 /// The number of these digits, unless it is too great.
-fn number_of_digits(most: u64, digits: &[u8]) -> Result<u64, Unread>
-    ensures value { ReadsAs (λ n. n) result (spec.number_of_digits most digits.now) }
-    ensures fits { IfOk result (λ n. n ≤ most) }
+fn number_of_digits(most: u64, digits: &[u8]) -> Option<u64>
+    ensures value { result ≡ spec.number_of_digits most digits.now }
+    ensures fits { IfSome result (λ n. n ≤ most) }
 {
     let mut number = 0u64;
     for byte in digits {
-        number = appended(most, number, digit_of(*byte)?)?;
+        let Some(digit) = digit_of(*byte) else {
+            return None;
+        };
+        let Some(next) = appended(most, number, digit) else {
+            return None;
+        };
+        number = next;
     }
-    Ok(number)
+    Some(number)
 }
 
 /// A decimal of one or more digits, at most so great.
@@ -49,10 +57,15 @@ pub(crate) fn decimal_of(most: u64, word: &[u8]) -> Result<u64, Unread>
     ensures value { ReadsAs (λ n. n) result (spec.decimal_of most word.now) }
     ensures fits { IfOk result (λ n. n ≤ most) }
 {
-    if word.is_empty() {
-        return Err(Unread::Faulty);
+    let number = if word.is_empty() {
+        None
+    } else {
+        number_of_digits(most, word)
+    };
+    match number {
+        Some(number) => Ok(number),
+        None => Err(Unread::Faulty(Misread::NoNumber(Quote::of(word), most))),
     }
-    number_of_digits(most, word)
 }
 
 /// The value of a number's digits.
@@ -61,7 +74,7 @@ fn number_of<A: Allocator>(alloc: A, digits: &[u8]) -> Result<Vec<u8, A>, Unread
     ensures { ReadsAs (λ v. v.items) result (spec.number_value_of digits.now) }
 {
     if digits.len() > 20 {
-        return Err(Unread::Faulty);
+        return Err(Unread::Faulty(Misread::NoNumber(Quote::of(digits), u64::MAX)));
     }
     let number = decimal_of(u64::MAX, digits)?;
     let mut bytes = [0u8; 8];
@@ -76,7 +89,7 @@ fn hex_of<A: Allocator>(alloc: A, digits: &[u8]) -> Result<Vec<u8, A>, Unread>
     match hex::decode(alloc, digits) {
         Ok(bytes) => Ok(bytes),
         Err(hex::FromHexError::OutOfMemory) => Err(Unread::NoMemory),
-        Err(_) => Err(Unread::Faulty),
+        Err(_) => Err(Unread::Faulty(Misread::NoHex(Quote::of(digits)))),
     }
 }
 
@@ -89,7 +102,7 @@ pub(crate) fn value_of<A: Allocator>(alloc: A, word: &[u8]) -> Result<Vec<u8, A>
         [b'#', digits @ ..] => number_of(alloc, digits),
         [b'\'', text @ ..] => Ok(Vec::from_slice(alloc, text)?),
         [b'x', digits @ ..] => hex_of(alloc, digits),
-        _ => Err(Unread::Faulty),
+        _ => Err(Unread::Faulty(Misread::NoValue(Quote::of(word)))),
     }
 }
 
@@ -98,12 +111,18 @@ pub(crate) fn key_of<A: Allocator>(alloc: A, word: &[u8]) -> Result<Key, Unread>
     ensures { ReadsAs (λ k. k) result (spec.key_of word.now) }
 {
     let bytes = value_of(alloc, word)?;
-    Key::new(bytes.as_slice()).ok_or(Unread::Faulty)
+    match Key::new(bytes.as_slice()) {
+        Some(key) => Ok(key),
+        None => Err(Unread::Faulty(Misread::NoKey(Quote::of(word)))),
+    }
 }
 
 /// What a key may hold, as a word.
 pub(crate) fn held_of<A: Allocator>(alloc: A, word: &[u8]) -> Result<Value<A>, Unread>
     ensures { ReadsAs (λ v. v) result (spec.held_value_of word.now) }
 {
-    Value::new(value_of(alloc, word)?).ok_or(Unread::Faulty)
+    match Value::new(value_of(alloc, word)?) {
+        Some(value) => Ok(value),
+        None => Err(Unread::Faulty(Misread::LongValue(Quote::of(word), VALUE_BYTES))),
+    }
 }

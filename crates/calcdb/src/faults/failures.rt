@@ -1,10 +1,21 @@
 //! Why the program's work isn't done, and how that is said.
 
-use crate::faults::Fault;
+ghost use Rattle.std.specs.Prelude.{◌≡◌, ◌⊎◌, ℕ, IfSome, OnOk};
+ghost use Rattle.std.specs.Io.KnownBytes.{Appends};
+ghost use Rattle.calcdb.specs.Failures.{explanation, status_of};
+ghost use Rattle.calcdb.specs.declared.faults.Fault.TheVariants as kind;
+ghost use Rattle.calcdb.specs.declared.faults.Reason.{Reason as SpecReason};
+ghost use Rattle.calcdb.specs.declared.faults.Reason.TheVariants as reason;
+ghost use Rattle.calcdb.specs.declared.faults.failures.Failure.TheVariants as failure;
+
+use crate::faults::misreads::FaultyLine;
+use crate::faults::subjects::Subject;
+use crate::faults::{Fault, Reason};
+use crate::scripts::SCRIPT_BYTES;
 use procedure::NoMemory;
 use std::alloc::{AllocError, AllocFailed};
 use std::fmt;
-use std::io::Write;
+use std::io::{self, Write};
 
 /// A file in the folder of a run.
 #[derive(Clone, Copy, Debug, PartialEq, Eq)]
@@ -15,6 +26,11 @@ pub(crate) enum RunFile {
 }
 
 impl fmt::Display for RunFile {
+    ghost use Rattle.std.specs.Prelude.{Some};
+    ghost use Rattle.calcdb.specs.RunFiles.{file_name};
+
+    ghost output = { λ file. Some (file_name file) };
+
     fn fmt<W: fmt::Write>(&self, f: &mut fmt::Formatter<W>) -> fmt::Result {
         match self {
             RunFile::Image(number) => write!(f, "{number}.img"),
@@ -31,6 +47,10 @@ pub(crate) enum OutFile<'a> {
 }
 
 impl fmt::Display for OutFile<'_> {
+    ghost use Rattle.calcdb.specs.OutFiles.{out_file_text};
+
+    ghost output = { out_file_text };
+
     fn fmt<W: fmt::Write>(&self, f: &mut fmt::Formatter<W>) -> fmt::Result {
         match self {
             OutFile::Named(name) => write!(f, "{name}"),
@@ -43,12 +63,16 @@ impl fmt::Display for OutFile<'_> {
 }
 
 /// Why the program's work isn't done.
-#[derive(Clone, Copy, Debug, PartialEq, Eq)]
+#[derive(Debug, Drop)]
 pub(crate) enum Failure<'a> {
-    /// One line on standard output says why.
-    Refused,
     /// The command line is faulty.
     Usage,
+    /// A line of the text with this name.
+    FaultyLine(&'a str, FaultyLine),
+    /// The text with this name has over 4,194,304 bytes.
+    LongText(&'a str),
+    /// What is read of files is refused.
+    Refused(Subject<'a>, Reason),
     /// The file of this name.
     CannotRead(&'a str),
     CannotWrite(OutFile<'a>),
@@ -76,21 +100,34 @@ impl<T: Drop> From<AllocFailed<T>> for Failure<'_> {
 }
 
 impl<'a> Failure<'a> {
-    /// The failure that a fault makes, where the input is a file of this name.
-    pub(crate) fn of_fault(fault: Fault, input: &'a str) -> Failure<'a> {
+    /// The failure that a fault makes, where the text is that with this name, and a refusal is of this subject.
+    pub(crate) fn of_fault(fault: Fault, text: &'a str, subject: Subject<'a>) -> Failure<'a>
+        ensures read { fault ≡ kind.Read → result ≡ failure.CannotRead text.entry }
+        ensures write { fault ≡ kind.Write → result ≡ failure.CannotPrint }
+        ensures memory { (fault ≡ kind.NoMemory) ⊎ (fault ≡ kind.Refused reason.NoMemory) → result ≡ failure.NoMemory }
+        ensures line { (n : ℕ) → fault ≡ kind.Line n → result ≡ failure.FaultyLine text.entry n }
+        ensures size { fault ≡ kind.Size → result ≡ failure.LongText text.entry }
+        ensures refused { (r : SpecReason) → (r ≡ reason.NoMemory → ⊥) → fault ≡ kind.Refused r → result ≡ failure.Refused subject.entry r }
+    {
         match fault {
-            Fault::Read => Failure::CannotRead(input),
+            Fault::Read => Failure::CannotRead(text),
             Fault::Write => Failure::CannotPrint,
-            Fault::NoMemory => Failure::NoMemory,
-            Fault::Line(_) | Fault::Size | Fault::Refused(_) => Failure::Refused,
+            Fault::NoMemory | Fault::Refused(Reason::NoMemory) => Failure::NoMemory,
+            Fault::Line(faulty) => Failure::FaultyLine(text, faulty),
+            Fault::Size => Failure::LongText(text),
+            Fault::Refused(reason) => Failure::Refused(subject, reason),
         }
     }
 
     /// The status of the process.
-    pub(crate) fn status(self) -> u8 {
+    pub(crate) fn status(&self) -> u8
+        ensures { result ≡ status_of self.now }
+    {
         match self {
             Failure::Usage => 2,
-            Failure::Refused
+            Failure::FaultyLine(_, _)
+            | Failure::LongText(_)
+            | Failure::Refused(_, _)
             | Failure::CannotRead(_)
             | Failure::CannotWrite(_)
             | Failure::CannotPrint
@@ -98,15 +135,28 @@ impl<'a> Failure<'a> {
         }
     }
 
-    /// Says on standard error what was wanting, where nothing else says it. A line that can't be written
-    /// there is lost.
-    pub(crate) fn explain<E: Write>(self, err: &mut E) {
-        let _ = match self {
+    /// Says on standard error why the work isn't done, but of a command line, of which clap says it.
+    pub(crate) fn explain<E: Write>(&self, err: &mut E) -> io::Result<()>
+        ensures { OnOk result (IfSome (explanation self.now) (Appends (E.contents err.old) (E.contents err.new))) }
+    {
+        match self {
             Failure::CannotRead(name) => writeln!(err, "calcdb: cannot read {name}"),
             Failure::CannotWrite(file) => writeln!(err, "calcdb: cannot write {file}"),
             Failure::CannotPrint => writeln!(err, "calcdb: cannot write output"),
             Failure::NoMemory => writeln!(err, "calcdb: no memory"),
-            Failure::Refused | Failure::Usage => Ok(()),
-        };
+            Failure::FaultyLine(name, FaultyLine { number, why }) => {
+                writeln!(err, "calcdb: {name} line {number}: {why}")
+            }
+            Failure::LongText(name) => {
+                writeln!(err, "calcdb: {name}: over {SCRIPT_BYTES} bytes")
+            }
+            // Their numbers are those of images, which the subject names.
+            Failure::Refused(subject, Reason::Gap(_)) => writeln!(err, "calcdb: {subject}gap"),
+            Failure::Refused(subject, Reason::NotPartial(_)) => {
+                writeln!(err, "calcdb: {subject}not partial")
+            }
+            Failure::Refused(subject, reason) => writeln!(err, "calcdb: {subject}{reason}"),
+            Failure::Usage => Ok(()),
+        }
     }
 }

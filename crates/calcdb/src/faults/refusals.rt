@@ -31,9 +31,9 @@ fn push_fault<A: Allocator + Clone>(line: &mut Vec<u8, A>, fault: &Fault) -> Res
     ensures { OnOk result (line.new.items ≡ line.old.items ++ fault_text fault.now) }
 {
     match fault {
-        Fault::Line(number) => {
+        Fault::Line(faulty) => {
             push_text(line, b"fault line ")?;
-            push_decimal(line, *number)?;
+            push_decimal(line, faulty.number)?;
             push_text(line, b"\n")
         }
         Fault::Size => push_text(line, b"fault size\n"),

@@ -3,14 +3,15 @@
 ghost use Rattle.std.specs.Prelude.{◌≡◌};
 ghost use Rattle.calcdb.specs.declared.faults.unread.Unread.TheVariants as unread;
 
+use crate::faults::misreads::Misread;
 use procedure::NoMemory;
 use std::alloc::{AllocError, AllocFailed};
 
 /// Why a line, or a part of it, isn't read.
-#[derive(Clone, Copy, Debug, PartialEq, Eq)]
+#[derive(Clone, Copy, Debug)]
 pub(crate) enum Unread {
     /// It isn't in the language.
-    Faulty,
+    Faulty(Misread),
     NoMemory,
 }
 

@@ -43,20 +43,21 @@ const NO_MEMORY: &[u8] = b"err calcdb: no memory\n";
 /// What a file has before a command makes it anew.
 const OLD: &[u8] = b"old";
 
-/// Lines that say out of memory, each at the end of what a command comes to.
-const WANTS: [&[u8]; 2] = [b"out refused no memory\n", NO_MEMORY];
+/// What a command comes to that says so on standard output too, which it does before it writes anything there.
+const REFUSED: &[u8] = b"1\nout refused no memory\nerr calcdb: no memory\n";
 
-/// Whether a command ended out of memory: then a line says so at its end, and what it wrote before
-/// is a beginning of what it writes else. If it didn't, it did as ever: a vector that is refused much asks
+/// Whether a command ended out of memory: then standard error says so, and what it wrote before is a
+/// beginning of what it writes else. If it didn't, it did as ever: a vector that is refused much asks
 /// for less.
 fn wanted_memory(rt: &impl Abort, line: &str, found: &[u8], whole: &[u8]) -> bool {
-    let lines = behind_status(whole);
-    for want in WANTS {
-        if let Some(front) = found.strip_suffix(want) {
-            let written = front.strip_prefix(b"1\n".as_slice());
-            check_that(rt, line, written.is_some_and(|it| lines.starts_with(it)));
-            return true;
-        }
+    if found == REFUSED {
+        return true;
+    }
+    if let Some(front) = found.strip_suffix(NO_MEMORY) {
+        let lines = behind_status(whole);
+        let written = front.strip_prefix(b"1\n".as_slice());
+        check_that(rt, line, written.is_some_and(|it| lines.starts_with(it)));
+        return true;
     }
     check_that(rt, line, found == whole);
     false

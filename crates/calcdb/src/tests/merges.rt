@@ -12,25 +12,25 @@ const MERGES: &str = "\
 image full = full 1 base 1 place 1: a=1 b=2 / image partial = partial 2 base 1 place 5: a=gone c=7 / image last = partial 3 base 2 place 9: b=9
 calcdb merge merged full partial last = 0|out image full 3 base 3 place 9 count 2 / calcdb show merged = 0|out image full 3 base 3 place 9 count 2|out 'b #9|out 'c #7
 older merged = merged / size merged = 95 / calcdb merge merged full = 0|out image full 1 base 1 place 1 count 2 / same merged = full / remove merged = -
-calcdb merge merged partial last = 1|out refused not full / calcdb merge merged full partial full = 1|out refused not partial 1
-calcdb merge merged full last = 1|out refused gap 0 / unwritten calcdb merge merged full = - / unwritten calcdb merge merged full last = -
-starved calcdb merge merged full = 1|out refused no memory / size merged = none / bytewise calcdb merge merged full partial last = 36
+calcdb merge merged partial last = 1|out refused not full|err calcdb: partial: not full / calcdb merge merged full partial full = 1|out refused not partial 1|err calcdb: full: not partial
+calcdb merge merged full last = 1|out refused gap 0|err calcdb: images full, last: gap / unwritten calcdb merge merged full = - / unwritten calcdb merge merged full last = -
+starved calcdb merge merged full = 1|out refused no memory|err calcdb: no memory / size merged = none / bytewise calcdb merge merged full partial last = 36
 scarce calcdb merge merged full partial last = 6 / calcdb merge merged full partial last --progress = 0|out image full 3 base 3 place 9 count 2|err calcdb: 2 of 3 files
 timeless calcdb merge merged full partial last --progress = 0|out image full 3 base 3 place 9 count 2 / remove merged = -
 # chains in version 1, and of both versions
 older full = full / older partial = partial / calcdb merge merged full partial last = 0|out image full 3 base 3 place 9 count 2 / older last = last
 calcdb merge merged full partial last = 0|out image full 3 base 3 place 9 count 2 / calcdb merge merged full = 0|out image full 1 base 1 place 1 count 2
-calcdb merge merged full last = 1|out refused gap 0 / calcdb merge merged full partial full = 1|out refused not partial 1 / remove last = - / image key = full 1 base 1 place 1: a=1
+calcdb merge merged full last = 1|out refused gap 0|err calcdb: images full, last: gap / calcdb merge merged full partial full = 1|out refused not partial 1|err calcdb: full: not partial / remove last = - / image key = full 1 base 1 place 1: a=1
 older key = key / image gone = partial 2 base 1 place 7: a=gone / calcdb merge merged key gone = 0|out image full 2 base 2 place 7 count 0
 image none = full 2 base 2 place 7: / same merged = none / size merged = 69 / unsaved calcdb merge merged key gone = merged 69 / remove none = - / remove key = - / remove gone = -
 # images with a byte that is another, and the first fault of several
-size full = 95 / turn full = 0 / calcdb merge merged full = 1|out refused not an image / turn full = 0 / turn full = 94 / calcdb merge merged full = 1|out refused bad digest
-calcdb show full = 1|out refused bad digest / image other = full 1 base 1 place 1: a=1 b=2 / size other = 127 / turn other = 9
-calcdb merge merged other = 1|out refused bad block 0 / calcdb show other = 1|out refused bad block 0 / turn other = 9 / turn other = 100
-calcdb merge merged other = 1|out refused bad block 1 / calcdb show other = 1|out refused bad block 1 / turn other = 100 / pad other = 128
-calcdb merge merged other = 1|out refused bad form / calcdb show other = 1|out refused bad form
+size full = 95 / turn full = 0 / calcdb merge merged full = 1|out refused not an image|err calcdb: full: not an image / turn full = 0 / turn full = 94 / calcdb merge merged full = 1|out refused bad digest|err calcdb: full: bad digest
+calcdb show full = 1|out refused bad digest|err calcdb: full: bad digest / image other = full 1 base 1 place 1: a=1 b=2 / size other = 127 / turn other = 9
+calcdb merge merged other = 1|out refused bad block 0|err calcdb: other: bad block 0 / calcdb show other = 1|out refused bad block 0|err calcdb: other: bad block 0 / turn other = 9 / turn other = 100
+calcdb merge merged other = 1|out refused bad block 1|err calcdb: other: bad block 1 / calcdb show other = 1|out refused bad block 1|err calcdb: other: bad block 1 / turn other = 100 / pad other = 128
+calcdb merge merged other = 1|out refused bad form|err calcdb: other: bad form / calcdb show other = 1|out refused bad form|err calcdb: other: bad form
 ; A file is said before those behind it, and before what is wrong with the chain.
-calcdb merge merged partial other full = 1|out refused bad form / remove full = - / remove other = - / remove partial = - / remove merged = -
+calcdb merge merged partial other full = 1|out refused bad form|err calcdb: other: bad form / remove full = - / remove other = - / remove partial = - / remove merged = -
 # files that can't be read, of which the first is named in the order of the words, or written
 write there = ; no image / image alone = full 1 base 1 place 1: a=1 / calcdb merge unmade absent = 1|err calcdb: cannot read absent
 calcdb merge unmade there absent . = 1|err calcdb: cannot read absent / calcdb merge unmade . absent = 1|err calcdb: cannot read .
@@ -46,7 +46,7 @@ const LONG_MERGES: &str = "\
 calcdb merge merged 1 2 3 4 5 6 7 8 9 10 11 12 13 14 15 16 17 18 19 20 21 22 23 24 25 26 27 28 29 30 31 32 33 34 35 36 37 38 39 40 41 42 43 44 45 46 47 48 49 50 51 52 53 54 55 56 57 58 59 60 61 62 63 64 = 0
 out image full 64 base 64 place 1 count 1
 calcdb merge merged 1 2 3 4 5 6 7 8 9 10 11 12 13 14 15 16 17 18 19 20 21 22 23 24 25 26 27 28 29 30 31 32 33 34 35 36 37 38 39 40 41 42 43 44 45 46 47 48 49 50 51 52 53 54 55 56 57 58 59 60 61 62 63 64 65 = 1
-out refused too many / remove merged = -
+out refused too many|err calcdb: images: too many / remove merged = -
 ";
 
 /// Logs of runs, and images, in both versions.
@@ -54,7 +54,7 @@ const SHOWN: &str = "\
 # an image
 image partial = partial 2 base 1 place 5: a=gone c=7 / calcdb show partial = 0|out image partial 2 base 1 place 5 count 2|out 'a gone|out 'c #7 / bytewise calcdb show partial = 53
 scarce calcdb show partial = 6 / unwritten calcdb show partial = - / older partial = partial
-calcdb show partial = 0|out image partial 2 base 1 place 5 count 2|out 'a gone|out 'c #7 / cut partial = 0 / calcdb show partial = 1|out refused not an image
+calcdb show partial = 0|out image partial 2 base 1 place 5 count 2|out 'a gone|out 'c #7 / cut partial = 0 / calcdb show partial = 1|out refused not an image|err calcdb: partial: not an image
 bytewise calcdb show partial = 21 / remove partial = -
 # a log of two calls
 folder two = - / write two/script = proc get 1|read r0 $0|end|proc new 2|insert $0 $1|end|call 0 1 new 'a #5|call 0 2 get 'a
@@ -64,11 +64,11 @@ scarce calcdb show two/log = 6 / older two/first = two/log / size two/first = 20
 calcdb show two/first = 0|out log records 2 clean|out 0 call 0 1 1 2 'a #5 committed|out 1 call 0 2 0 1 'a committed #5 / cut two/first = 202
 calcdb show two/first = 0|out log records 1 torn|out 0 call 0 1 1 2 'a #5 committed
 ; Another byte in a length, a body or a digest.
-size two/log = 203 / turn two/log = 0 / calcdb show two/log = 1|out refused not an image / turn two/log = 0 / turn two/log = 72 / calcdb show two/log = 1|out refused damaged 0
-turn two/log = 72 / turn two/log = 80 / calcdb show two/log = 1|out refused damaged 0 / turn two/log = 80 / turn two/log = 136 / calcdb show two/log = 1|out refused damaged 0
-turn two/log = 136 / turn two/log = 145 / calcdb show two/log = 1|out refused damaged 1 / turn two/log = 145 / turn two/log = 202 / calcdb show two/log = 1|out refused damaged 1
+size two/log = 203 / turn two/log = 0 / calcdb show two/log = 1|out refused not an image|err calcdb: two/log: not an image / turn two/log = 0 / turn two/log = 72 / calcdb show two/log = 1|out refused damaged 0|err calcdb: two/log: damaged 0
+turn two/log = 72 / turn two/log = 80 / calcdb show two/log = 1|out refused damaged 0|err calcdb: two/log: damaged 0 / turn two/log = 80 / turn two/log = 136 / calcdb show two/log = 1|out refused damaged 0|err calcdb: two/log: damaged 0
+turn two/log = 136 / turn two/log = 145 / calcdb show two/log = 1|out refused damaged 1|err calcdb: two/log: damaged 1 / turn two/log = 145 / turn two/log = 202 / calcdb show two/log = 1|out refused damaged 1|err calcdb: two/log: damaged 1
 turn two/log = 202 / cut two/log = 202 / calcdb show two/log = 0|out log records 1 torn|out 0 call 0 1 1 2 'a #5 committed / cut two/log = 72
-calcdb show two/log = 0|out log records 0 clean / cut two/log = 71 / calcdb show two/log = 1|out refused not a log / remove two = -
+calcdb show two/log = 0|out log records 0 clean / cut two/log = 71 / calcdb show two/log = 1|out refused not a log|err calcdb: two/log: not a log / remove two = -
 # a log with tokens, and a call that is aborted with its replies
 folder tokens = -
 write tokens/script = proc end 0|read r0 'a|read r1 'z|abort 16 absent r0|end|proc set 2|put $0 $1|end|start full|call 0 1 set 'z #0|call 63 18446744073709551615 end|advance

@@ -11,27 +11,28 @@ const RUNS: &str = "\
 write right = proc new 2|insert $0 $1|end|call 0 1 new 'a #5|call 0 2 new 'a #5|step 0 / calcdb run right = 0|out place 0 committed|out place 1 aborted 1|out refused not active
 bytewise calcdb run right = 55 / unwritten calcdb run right = - / starved calcdb run right = 1|err calcdb: no memory / remove right = -
 # scripts of 4,194,305 bytes, and of one less
-write right = step 0 / pad right = 4194305 / calcdb run right = 1|out fault size / cut right = 4194304 / calcdb run right = 0|out refused not active / remove right = -
+write right = step 0 / pad right = 4194305 / calcdb run right = 1|out fault size|err calcdb: right: over 4194304 bytes / cut right = 4194304 / calcdb run right = 0|out refused not active / remove right = -
 # runs that don't begin
-write wrong = step 0|stop 0 / calcdb run wrong = 1|out fault line 2 / calcdb run none = 1|err calcdb: cannot read none
+write wrong = step 0|stop 0 / calcdb run wrong = 1|out fault line 2|err calcdb: wrong line 2: no command \"stop\" / calcdb run none = 1|err calcdb: cannot read none
 ; A folder can be opened, and its first read fails.
 calcdb run . = 1|err calcdb: cannot read . / unwritten calcdb run wrong = - / remove wrong = -
 # openings from an image
 write right = proc get 1|read r0 $0|end|call 0 1 get 'a / write faulty = stop / image second = full 0 base 0 place 0: a=1 / older first = second
 calcdb run right --open second = 0|out place 0 committed #1 / calcdb run right --open first = 0|out place 0 committed #1
 ; The image is looked at first, whether or not there is a script, or a faulty one.
-calcdb run faulty --open second = 1|out fault line 1 / calcdb run none --open second = 1|err calcdb: cannot read none
+calcdb run faulty --open second = 1|out fault line 1|err calcdb: faulty line 1: no command \"stop\" / calcdb run none --open second = 1|err calcdb: cannot read none
 calcdb run right --open none = 1|err calcdb: cannot read none / calcdb run none --open none.img = 1|err calcdb: cannot read none.img
-calcdb run right --open . = 1|err calcdb: cannot read . / calcdb run right --open right = 1|out refused not an image / turn first = 81
-calcdb run right --open first = 1|out refused bad digest / turn second = 8 / calcdb run right --open second = 1|out refused bad block 0 / turn second = 8 / turn second = 113
-calcdb run faulty --open second = 1|out refused bad block 1 / turn second = 113 / pad second = 115 / calcdb run none --open second = 1|out refused bad form
-unwritten calcdb run right --open second = - / image second = full 0 base 0 place 1: a=1 / calcdb run right --open second = 1|out refused not an opening
-calcdb run none --open second = 1|out refused not an opening / unwritten calcdb run right --open second = - / image second = partial 1 base 0 place 0: a=1
-calcdb run faulty --open second = 1|out refused not an opening / remove right = - / remove faulty = - / remove first = - / remove second = -
+calcdb run right --open . = 1|err calcdb: cannot read . / calcdb run right --open right = 1|out refused not an image|err calcdb: right: not an image / turn first = 81
+calcdb run right --open first = 1|out refused bad digest|err calcdb: first: bad digest / turn second = 8 / calcdb run right --open second = 1|out refused bad block 0|err calcdb: second: bad block 0 / turn second = 8 / turn second = 113
+calcdb run faulty --open second = 1|out refused bad block 1|err calcdb: second: bad block 1 / turn second = 113 / pad second = 115 / calcdb run none --open second = 1|out refused bad form|err calcdb: second: bad form
+unwritten calcdb run right --open second = - / image second = full 0 base 0 place 1: a=1 / calcdb run right --open second = 1|out refused not an opening|err calcdb: second: not an opening
+calcdb run none --open second = 1|out refused not an opening|err calcdb: second: not an opening / unwritten calcdb run right --open second = - / image second = partial 1 base 0 place 0: a=1
+calcdb run faulty --open second = 1|out refused not an opening|err calcdb: second: not an opening / remove right = - / remove faulty = - / remove first = - / remove second = -
 # a script on standard input, one that can't be read, and a file of that name
 write right = proc new 2|insert $0 $1|end|call 0 1 new 'a #5|call 0 2 new 'a #5|step 0 / piped right calcdb run - = 0|out place 0 committed|out place 1 aborted 1|out refused not active
 bytewise piped right calcdb run - = 55 / starved piped right calcdb run - = 1|err calcdb: no memory / calcdb run - = 1|err calcdb: cannot read -
-write - = step 0|stop 0 / calcdb run ./- = 1|out fault line 2 / piped - calcdb run - = 1|out fault line 2 / piped right calcdb run ./- = 1|out fault line 2 / remove - = -
+write - = step 0|stop 0 / calcdb run ./- = 1|out fault line 2|err calcdb: ./- line 2: no command \"stop\" / piped - calcdb run - = 1|out fault line 2|err calcdb: - line 2: no command \"stop\"
+piped right calcdb run ./- = 1|out fault line 2|err calcdb: ./- line 2: no command \"stop\" / remove - = -
 ; Only the text is read from there.
 piped right calcdb run right --open - = 1|err calcdb: cannot read - / piped right calcdb run right --out - = 1|out place 0 committed|out place 1 aborted 1|out refused not active
 err calcdb: cannot write -/0.img / piped right calcdb show - = 1|err calcdb: cannot read - / remove right = -
@@ -83,8 +84,14 @@ calcdb run blocked/script --out blocked = 1|out checkpoint 1|out phase resolve|o
 size blocked/0.img = 69 / remove blocked/0.img = - / remove blocked/log = - / write blocked/script = start full|advance|advance|scan|advance|image / folder blocked/1.img = -
 calcdb run blocked/script --out blocked = 1|out checkpoint 1|out phase resolve|out phase capture|out slots 0|out phase complete|out image full 1 base 1 place 1 count 0
 err calcdb: cannot write blocked/1.img / size blocked/0.img = 69 / size blocked/log = none / remove blocked = -
+# images of another run stay and are told of; what no run gives a name to isn't one
+folder others = - / write others/script = start full|advance|advance|scan|advance|image / write others/7.img = old / write others/01.img = none / write others/x.img = none / write others/2.imgs = none
+calcdb run others/script --out others = 0|out checkpoint 1|out phase resolve|out phase capture|out slots 0|out phase complete|out image full 1 base 1 place 1 count 0
+err calcdb: others/7.img is of another run / write others/2.img = old / write others/18446744073709551615.img = old / write others/18446744073709551616.img = none
+calcdb run others/script --out others/ = 0|out checkpoint 1|out phase resolve|out phase capture|out slots 0|out phase complete|out image full 1 base 1 place 1 count 0
+err calcdb: others/2.img is of another run, and 2 more / size others/7.img = 4 / size others/1.img = 69 / remove others = -
 # runs that aren't carried out leave no file
-folder bare = - / write bare/fault = start full|stop / write bare/script = start full / calcdb run bare/fault --out bare = 1|out fault line 2
+folder bare = - / write bare/fault = start full|stop / write bare/script = start full / calcdb run bare/fault --out bare = 1|out fault line 2|err calcdb: bare/fault line 2: no command \"stop\"
 calcdb run bare/none --out bare = 1|err calcdb: cannot read bare/none / unwritten calcdb run bare/script --out bare = -
 starved calcdb run bare/script --out bare = 1|err calcdb: no memory / size bare/0.img = none / size bare/log = none / remove bare = -
 ";
@@ -93,19 +100,19 @@ const LOADS: &str = "\
 # a load
 write pairs = 'a #1 / calcdb load pairs image = 0|out image full 0 base 0 place 0 count 1 / size image = 114 / unsaved calcdb load pairs image = image 114 / older first = image / size first = 82 / remove first = -
 calcdb show image = 0|out image full 0 base 0 place 0 count 1|out 'a #1 / scarce calcdb load pairs image = 5 / bytewise calcdb load pairs image = 36 / remove image = -
-unwritten calcdb load pairs image = - / starved calcdb load pairs image = 1|out refused no memory / size image = none / remove pairs = -
+unwritten calcdb load pairs image = - / starved calcdb load pairs image = 1|out refused no memory|err calcdb: no memory / size image = none / remove pairs = -
 # pairs of 4,194,305 bytes, and of one less
-write pairs = 'a #1 / pad pairs = 4194305 / calcdb load pairs image = 1|out fault size / cut pairs = 4194304 / calcdb load pairs image = 0|out image full 0 base 0 place 0 count 1
+write pairs = 'a #1 / pad pairs = 4194305 / calcdb load pairs image = 1|out fault size|err calcdb: pairs: over 4194304 bytes / cut pairs = 4194304 / calcdb load pairs image = 0|out image full 0 base 0 place 0 count 1
 remove pairs = - / remove image = -
 # loads that make no image
-write faulty = 'a #1|'a #2 / calcdb load faulty image = 1|out fault line 2 / calcdb load none image = 1|err calcdb: cannot read none
+write faulty = 'a #1|'a #2 / calcdb load faulty image = 1|out fault line 2|err calcdb: faulty line 2: a line before has the key / calcdb load none image = 1|err calcdb: cannot read none
 calcdb load . image = 1|err calcdb: cannot read . / unwritten calcdb load faulty image = - / size image = none / write faulty = 'a #1
 calcdb load faulty none/image = 1|out image full 0 base 0 place 0 count 1|err calcdb: cannot write none/image
 calcdb load faulty . = 1|out image full 0 base 0 place 0 count 1|err calcdb: cannot write . / remove faulty = -
 # pairs on standard input, and an image in a file of that name
 write pairs = 'a #1 / piped pairs calcdb load - image = 0|out image full 0 base 0 place 0 count 1 / size image = 114 / scarce piped pairs calcdb load - image = 5
 unsaved piped pairs calcdb load - image = image 114 / remove image = - / calcdb load - image = 1|err calcdb: cannot read - / size image = none
-piped pairs calcdb load - - = 0|out image full 0 base 0 place 0 count 1 / size - = 114 / remove - = - / pad pairs = 4194305 / piped pairs calcdb load - image = 1|out fault size / remove pairs = -
+piped pairs calcdb load - - = 0|out image full 0 base 0 place 0 count 1 / size - = 114 / remove - = - / pad pairs = 4194305 / piped pairs calcdb load - image = 1|out fault size|err calcdb: -: over 4194304 bytes / remove pairs = -
 # how much of the pairs is read: each second look at the clock is a line
 write pairs = 'a #1|'b #2|'c #3 / calcdb load pairs image --progress = 0|out image full 0 base 0 place 0 count 3|err calcdb: 18 bytes
 piped pairs calcdb load - image --progress = 0|out image full 0 base 0 place 0 count 3|err calcdb: 14 bytes|err calcdb: 18 bytes
@@ -121,7 +128,7 @@ fn runs(rt: HostRuntime) -> Result<(), Fail> {
 
 #[test]
 fn files_of_runs(rt: HostRuntime) -> Result<(), Fail> {
-    assert_eq!(rt; check_rows(&rt, FILES)?, 5);
+    assert_eq!(rt; check_rows(&rt, FILES)?, 6);
     Ok(())
 }
 

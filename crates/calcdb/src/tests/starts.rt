@@ -88,7 +88,7 @@ const SHOWN: (u8, &str, &str) = (0, "image full 0 base 0 place 0 count 1\n'a #1\
 
 const NO_MEMORY: (u8, &str, &str) = (1, "", "calcdb: no memory\n");
 
-const REFUSED: (u8, &str, &str) = (1, "refused no memory\n", "");
+const REFUSED: (u8, &str, &str) = (1, "refused no memory\n", "calcdb: no memory\n");
 
 const NO_UTF_8: (u8, &str, &str) = (2, "", "calcdb: a word isn't UTF-8\n");
 

@@ -2,6 +2,8 @@
 
 use crate::command_line::job;
 use crate::commands::is_name;
+use crate::faults::Fault;
+use crate::faults::misreads::FaultyLine;
 use crate::output::{push_image, push_value};
 use crate::pairs::load;
 use crate::scripts::{ScriptFault, read_catalog, read_schedule, read_thread_script};
@@ -25,80 +27,80 @@ enum Reading {
     Words,
 }
 
-/// Scripts, and how many procedures each has, or its first faulty line.
+/// Scripts, and how many procedures each has, or its first faulty line and why it is faulty.
 const SCRIPTS: &str = "\
 ; \r|\t \r| proc g 0 \r|| end|step 00\r = Ok(1)
-|stop 0 = Err(Line(2))
-;|;|; \u{7f}| = Err(Line(3))
-step 65536 = Err(Line(1))
-step = Err(Line(1))
-step 0 0 = Err(Line(1))
-step -1 = Err(Line(1))
-call 0 1 get 'a = Err(Line(1))
-proc g 1|read r0 $0|end|call 0 18446744073709551616 g 'a = Err(Line(4))
-proc g 1|read r0 $0|end|call 0 1 g #18446744073709551616 = Err(Line(4))
-proc g 1|read r0 $0|end|call 0 1 g x123 = Err(Line(4))
-proc g 1|read r0 $0|end|call 0 1 g xgg = Err(Line(4))
-proc g 1|read r0 $1|end = Err(Line(2))
-proc g 1|read r8 $0|end = Err(Line(2))
-proc g 1|abort 15 absent $0|end = Err(Line(2))
-proc g 1|abort 256 absent $0|end = Err(Line(2))
-proc g 9|end = Err(Line(1))
-proc G 1|end = Err(Line(1))
-proc g 1|end|proc g 1|end = Err(Line(3))
-proc g 1|read r0 $0||wrong| = Err(Line(1))
-proc g 1|read r0 $0||wrong|end = Err(Line(4))
-step 0|proc g 1|end = Err(Line(2))
-proc g 1|proc h 1|end = Err(Line(2))
-proc g 1 1|end = Err(Line(1))
-proc abcdefghijklmnopqrstuvwxyz0123456 1|end = Err(Line(1))
-proc g 1|read r0|end = Err(Line(2))
-proc g 1|read r0 $0 $0|end = Err(Line(2))
-proc g 1|put $0 text|end = Err(Line(2))
-proc g 1|put $0 #000000000000000000000|end = Err(Line(2))
-proc g 1|abort 16 same $0|end = Err(Line(2))
-proc g 1|read r0 $0|end 1|end = Err(Line(3))
-step 0\rstep 0 = Err(Line(1))
-start = Err(Line(1))
-start half = Err(Line(1))
-start full partial = Err(Line(1))
-advance 1 = Err(Line(1))
-capture 1 = Err(Line(1))
-scan x = Err(Line(1))
-image 1 = Err(Line(1))
-reclaim 'a = Err(Line(1))
-abandon 1 = Err(Line(1))
-scans = Err(Line(1))
-step 0|step 0|step\u{0}0| = Err(Line(3))
+|stop 0 = line 2: no command \"stop\"
+;|;|; \u{7f}| = line 3: a byte isn't printable ASCII or a tab
+step 65536 = line 1: \"65536\" isn't a number from 0 to 65535
+step = line 1: a word is missing
+step 0 0 = line 1: \"0\" is a word too many
+step -1 = line 1: \"-1\" isn't a number from 0 to 65535
+call 0 1 get 'a = line 1: no procedure \"get\"
+proc g 1|read r0 $0|end|call 0 18446744073709551616 g 'a = line 4: \"18446744073709551616\" isn't a number from 0 to 18446744073709551615
+proc g 1|read r0 $0|end|call 0 1 g #18446744073709551616 = line 4: \"18446744073709551616\" isn't a number from 0 to 18446744073709551615
+proc g 1|read r0 $0|end|call 0 1 g x123 = line 4: \"123\" isn't hexadecimal, of two digits a byte
+proc g 1|read r0 $0|end|call 0 1 g xgg = line 4: \"gg\" isn't hexadecimal, of two digits a byte
+proc g 1|read r0 $1|end = line 2: no argument \"$1\"
+proc g 1|read r8 $0|end = line 2: no register \"r8\"
+proc g 1|abort 15 absent $0|end = line 2: \"15\" isn't a code from 16 to 255
+proc g 1|abort 256 absent $0|end = line 2: \"256\" isn't a number from 0 to 255
+proc g 9|end = line 1: \"9\" isn't a number from 0 to 8
+proc G 1|end = line 1: \"G\" isn't a name of a procedure
+proc g 1|end|proc g 1|end = line 3: there is a procedure \"g\" already
+proc g 1|read r0 $0||wrong| = line 1: the procedure has no end
+proc g 1|read r0 $0||wrong|end = line 4: no instruction \"wrong\"
+step 0|proc g 1|end = line 2: no command \"proc\"
+proc g 1|proc h 1|end = line 2: no instruction \"proc\"
+proc g 1 1|end = line 1: \"1\" is a word too many
+proc abcdefghijklmnopqrstuvwxyz0123456 1|end = line 1: \"abcdefghijklmnopqrstuvwx..\" isn't a name of a procedure
+proc g 1|read r0|end = line 2: a word is missing
+proc g 1|read r0 $0 $0|end = line 2: \"$0\" is a word too many
+proc g 1|put $0 text|end = line 2: \"text\" isn't a value, which begins with #, ' or x
+proc g 1|put $0 #000000000000000000000|end = line 2: \"000000000000000000000\" isn't a number from 0 to 18446744073709551615
+proc g 1|abort 16 same $0|end = line 2: no test \"same\"
+proc g 1|read r0 $0|end 1|end = line 3: no instruction \"end\"
+step 0\rstep 0 = line 1: a byte isn't printable ASCII or a tab
+start = line 1: a word is missing
+start half = line 1: no kind of checkpoint \"half\"
+start full partial = line 1: \"partial\" is a word too many
+advance 1 = line 1: \"1\" is a word too many
+capture 1 = line 1: \"1\" is a word too many
+scan x = line 1: \"x\" is a word too many
+image 1 = line 1: \"1\" is a word too many
+reclaim 'a = line 1: \"'a\" is a word too many
+abandon 1 = line 1: \"1\" is a word too many
+scans = line 1: no command \"scans\"
+step 0|step 0|step\u{0}0| = line 3: a byte isn't printable ASCII or a tab
 ";
 
-/// Scripts of runs in threads, and how many commands each has, or its first faulty line.
+/// Scripts of runs in threads, and how many commands each has, or its first faulty line and why.
 const THREAD_SCRIPTS: &str = "\
 proc g 1|read r0 $0|end|call 63 18446744073709551615 g 'a|checkpoint full|checkpoint partial|view 'abcdefghijklmnopqrstuvwxyz012345| = Ok(4)
 ;|proc g 0|end||; none = Ok(0)
-proc g 1|read r0 $0|end|call 64 1 g 'a = Err(Line(4))
-proc g 1|read r0 $0|end|call 0 18446744073709551616 g 'a = Err(Line(4))
-call 0 1 g 'a = Err(Line(1))
-proc g 1|read r0 $0|end|call 0 1 g a = Err(Line(4))
-proc g 1|read r0 $0|end|call 0 1 = Err(Line(4))
-checkpoint = Err(Line(1))
-checkpoint half = Err(Line(1))
-checkpoint full partial = Err(Line(1))
-view = Err(Line(1))
-view ' = Err(Line(1))
-view 'abcdefghijklmnopqrstuvwxyz0123456 = Err(Line(1))
-view 'a 'b = Err(Line(1))
-view a = Err(Line(1))
-checkpoint full|begin 0 1 g 'a = Err(Line(2))
-checkpoint full|start full = Err(Line(2))
-checkpoint full|advance = Err(Line(2))
-checkpoint full|proc g 1|end = Err(Line(2))
-checkpoint full|view\u{0} 'a = Err(Line(2))
-proc g 1|checkpoint full|end = Err(Line(2))
-proc g 1|checkpoint full = Err(Line(1))
+proc g 1|read r0 $0|end|call 64 1 g 'a = line 4: \"64\" isn't a number from 0 to 63
+proc g 1|read r0 $0|end|call 0 18446744073709551616 g 'a = line 4: \"18446744073709551616\" isn't a number from 0 to 18446744073709551615
+call 0 1 g 'a = line 1: no procedure \"g\"
+proc g 1|read r0 $0|end|call 0 1 g a = line 4: \"a\" isn't a value, which begins with #, ' or x
+proc g 1|read r0 $0|end|call 0 1 = line 4: a word is missing
+checkpoint = line 1: a word is missing
+checkpoint half = line 1: no kind of checkpoint \"half\"
+checkpoint full partial = line 1: \"partial\" is a word too many
+view = line 1: a word is missing
+view ' = line 1: \"'\" isn't a key of 1 to 32 bytes
+view 'abcdefghijklmnopqrstuvwxyz0123456 = line 1: \"'abcdefghijklmnopqrstuvw..\" isn't a key of 1 to 32 bytes
+view 'a 'b = line 1: \"'b\" is a word too many
+view a = line 1: \"a\" isn't a value, which begins with #, ' or x
+checkpoint full|begin 0 1 g 'a = line 2: no command \"begin\"
+checkpoint full|start full = line 2: no command \"start\"
+checkpoint full|advance = line 2: no command \"advance\"
+checkpoint full|proc g 1|end = line 2: no command \"proc\"
+checkpoint full|view\u{0} 'a = line 2: a byte isn't printable ASCII or a tab
+proc g 1|checkpoint full|end = line 2: no instruction \"checkpoint\"
+proc g 1|checkpoint full = line 1: the procedure has no end
 ";
 
-/// Texts, and how many procedures stand before their first command, or their first faulty line. From the
+/// Texts, and how many procedures stand before their first command, or their first faulty line and why. From the
 /// first line of a command on nothing is looked at.
 const CATALOGS: &str = "\
 ; none|| = Ok(0)
@@ -111,39 +113,39 @@ stop|proc g| = Ok(0)
 end| = Ok(0)
 proc g 1|end|step\u{0} 0| = Ok(1)
 proc g 1|end|Proc h| = Ok(1)
-|; \u{7f}| = Err(Line(2))
-proc g\u{0} 1|end| = Err(Line(1))
-proc g 9|end|step 0| = Err(Line(1))
-proc g 1|end|proc g 1|end|step 0| = Err(Line(3))
-proc g 1|step 0|end|step 0| = Err(Line(2))
-proc g 1|\u{0}|end|stop| = Err(Line(2))
-proc g 1|step 0| = Err(Line(1))
-|proc g 1|read r0 $0| = Err(Line(2))
-proc g 1|end 1|| = Err(Line(1))
+|; \u{7f}| = line 2: a byte isn't printable ASCII or a tab
+proc g\u{0} 1|end| = line 1: a byte isn't printable ASCII or a tab
+proc g 9|end|step 0| = line 1: \"9\" isn't a number from 0 to 8
+proc g 1|end|proc g 1|end|step 0| = line 3: there is a procedure \"g\" already
+proc g 1|step 0|end|step 0| = line 2: no instruction \"step\"
+proc g 1|\u{0}|end|stop| = line 2: a byte isn't printable ASCII or a tab
+proc g 1|step 0| = line 1: the procedure has no end
+|proc g 1|read r0 $0| = line 2: the procedure has no end
+proc g 1|end 1|| = line 1: the procedure has no end
 ";
 
-/// Texts of pairs, and the lines of their images or of their faults.
+/// Texts of pairs, and the lines of their images or of their faults, with why a line is faulty.
 const PAIRS: &str = "\
 'a #1 = image full 0 base 0 place 0 count 1|'a #1
  = image full 0 base 0 place 0 count 0
 'abcdefghijklmnopqrstuvwxyz012345 x| = image full 0 base 0 place 0 count 1|'abcdefghijklmnopqrstuvwxyz012345 '
 ; in any order|| \t\r|'b x0aff\r| 'a\t' |#5 'text\r = image full 0 base 0 place 0 count 3|#5 'text|'a '|'b x0aff
-'a = fault line 1
-'a #1 #2 = fault line 1
-'a #1 ; = fault line 1
-a #1 = fault line 1
-'a 1 = fault line 1
-'a #18446744073709551616 = fault line 1
-'a x123 = fault line 1
-'a xgg = fault line 1
-' #1 = fault line 1
-|x #1 = fault line 2
-'abcdefghijklmnopqrstuvwxyz0123456 #1 = fault line 1
-'a #1|'b #2|'a #3|wrong = fault line 3
-'a #1|;|x61 #1| = fault line 3
-; \u{7f}| = fault line 1
-'b #1|'a\u{0} #1 = fault line 2
-'a #1\r'b #1 = fault line 1
+'a = fault line 1|a word is missing
+'a #1 #2 = fault line 1|\"#2\" is a word too many
+'a #1 ; = fault line 1|\";\" is a word too many
+a #1 = fault line 1|\"a\" isn't a value, which begins with #, ' or x
+'a 1 = fault line 1|\"1\" isn't a value, which begins with #, ' or x
+'a #18446744073709551616 = fault line 1|\"18446744073709551616\" isn't a number from 0 to 18446744073709551615
+'a x123 = fault line 1|\"123\" isn't hexadecimal, of two digits a byte
+'a xgg = fault line 1|\"gg\" isn't hexadecimal, of two digits a byte
+' #1 = fault line 1|\"'\" isn't a key of 1 to 32 bytes
+|x #1 = fault line 2|\"x\" isn't a key of 1 to 32 bytes
+'abcdefghijklmnopqrstuvwxyz0123456 #1 = fault line 1|\"'abcdefghijklmnopqrstuvw..\" isn't a key of 1 to 32 bytes
+'a #1|'b #2|'a #3|wrong = fault line 3|a line before has the key
+'a #1|;|x61 #1| = fault line 3|a line before has the key
+; \u{7f}| = fault line 1|a byte isn't printable ASCII or a tab
+'b #1|'a\u{0} #1 = fault line 2|a byte isn't printable ASCII or a tab
+'a #1\r'b #1 = fault line 1|a byte isn't printable ASCII or a tab
 ";
 
 /// Words of values, and what is printed of them.
@@ -220,13 +222,31 @@ fn procedures_of(alloc: Global, text: &[u8]) -> Result<usize, ScriptFault> {
     Ok(read_catalog(alloc, text)?.len())
 }
 
+/// How many there are, or the first faulty line and why it is faulty.
+fn count_read(alloc: Global, count: Result<usize, ScriptFault>) -> Result<String<Global>, Fail> {
+    Ok(match count {
+        Err(ScriptFault::Line(FaultyLine { number, why })) => {
+            format!(in alloc; "line {number}: {why}")?
+        }
+        other => format!(in alloc; "{other:?}")?,
+    })
+}
+
+/// The line of a fault, and why a line is faulty.
+fn fault_read(alloc: Global, fault: &Fault) -> Result<String<Global>, Fail> {
+    Ok(match fault {
+        Fault::Line(FaultyLine { number: _, why }) => format!(in alloc; "{fault}\n{why}\n")?,
+        _ => format!(in alloc; "{fault}\n")?,
+    })
+}
+
 /// The lines of the image of a text of pairs, or of its fault. A header or a fault is what was written.
 fn pairs_read(rt: &impl Abort, alloc: Global, text: &str) -> Result<String<Global>, Fail> {
     let mut written = Vec::new(alloc);
     let mut lines = Vec::new(alloc);
     match load(alloc, &mut text.as_bytes(), &mut written) {
         Ok(image) => push_image(&mut lines, &image)?,
-        Err(fault) => lines.extend_from_slice(format!(in alloc; "{fault}\n")?.as_bytes())?,
+        Err(fault) => lines.extend_from_slice(fault_read(alloc, &fault)?.as_bytes())?,
     }
     check_that(rt, text, lines.starts_with(written.as_slice()));
     check_that(rt, text, written.ends_with(b"\n"));
@@ -265,9 +285,9 @@ fn task_read(rt: &impl Abort, alloc: Global, line: &str) -> Result<String<Global
 fn read(rt: &impl Abort, alloc: Global, how: Reading, text: &str) -> Result<String<Global>, Fail> {
     let bytes = text.as_bytes();
     match how {
-        Reading::Script => Ok(format!(in alloc; "{:?}", procedures_of_script(alloc, bytes))?),
-        Reading::ThreadScript => Ok(format!(in alloc; "{:?}", commands_of_threads(alloc, bytes))?),
-        Reading::Catalog => Ok(format!(in alloc; "{:?}", procedures_of(alloc, bytes))?),
+        Reading::Script => count_read(alloc, procedures_of_script(alloc, bytes)),
+        Reading::ThreadScript => count_read(alloc, commands_of_threads(alloc, bytes)),
+        Reading::Catalog => count_read(alloc, procedures_of(alloc, bytes)),
         Reading::Pairs => pairs_read(rt, alloc, text),
         Reading::Value => value_read(alloc, text),
         Reading::Name => Ok(format!(in alloc; "{}", is_name(bytes))?),
@@ -337,9 +357,12 @@ fn script_of_sizes(
 fn limits(rt: HostRuntime) -> Result<(), Fail> {
     for (sizes, wanted) in [
         ((64, 256, 64), "Ok(64)"),
-        ((65, 256, 64), "Err(Line(66))"),
-        ((64, 257, 64), "Err(Line(2))"),
-        ((64, 256, 65), "Err(Line(193))"),
+        ((65, 256, 64), "line 66: over 64 instructions"),
+        (
+            (64, 257, 64),
+            "line 2: \"'aaaaaaaaaaaaaaaaaaaaaaa..\" has over 256 bytes",
+        ),
+        ((64, 256, 65), "line 193: over 64 procedures"),
     ] {
         let text = script_of_sizes(rt.alloc(), sizes)?;
         check(&rt, rt.alloc(), Reading::Script, text.as_str(), wanted)?;
@@ -356,17 +379,13 @@ fn long_values(rt: HostRuntime) -> Result<(), Fail> {
     let image = format!(in alloc; "image full 0 base 0 place 0 count 1\n{pair}")?;
     check(&rt, alloc, Reading::Pairs, pair.as_str(), image.as_str())?;
     let longer = format!(in alloc; "'b '\n{pair}v")?;
-    check(&rt, alloc, Reading::Pairs, longer.as_str(), "fault line 2")?;
+    let fault = "fault line 2\n\"'vvvvvvvvvvvvvvvvvvvvvvv..\" has over 65535 bytes";
+    check(&rt, alloc, Reading::Pairs, longer.as_str(), fault)?;
     let call = format!(in alloc; "proc g 1\nread r0 $0\nend\ncall 0 1 g '{longest}")?;
     check(&rt, alloc, Reading::ThreadScript, call.as_str(), "Ok(1)")?;
     let longer = format!(in alloc; "{call}v")?;
-    check(
-        &rt,
-        alloc,
-        Reading::ThreadScript,
-        longer.as_str(),
-        "Err(Line(4))",
-    )
+    let fault = "line 4: \"'vvvvvvvvvvvvvvvvvvvvvvv..\" has over 65535 bytes";
+    check(&rt, alloc, Reading::ThreadScript, longer.as_str(), fault)
 }
 
 /// Calls of arguments of 257, 65,536, 33 and 32 bytes.

@@ -30,8 +30,8 @@ bytewise calcdb run keys --threads --open opening = 60 / remove keys = - / remov
 # a run without commands
 write nothing = proc set 2|put $0 $1|end / calcdb run nothing --threads = 0|out calls 0 answered 0 stopped 0|out images 0|out audit ok / remove nothing = -
 # runs that don't begin
-write wrong = stop 0 / calcdb run wrong --threads = 1|out fault line 1 / calcdb run none --threads = 1|err calcdb: cannot read none / pad wrong = 4194305
-calcdb run wrong --threads = 1|out fault size / image second = full 0 base 0 place 1: a=1 / calcdb run wrong --open second --threads = 1|out refused not an opening
+write wrong = stop 0 / calcdb run wrong --threads = 1|out fault line 1|err calcdb: wrong line 1: no command \"stop\" / calcdb run none --threads = 1|err calcdb: cannot read none / pad wrong = 4194305
+calcdb run wrong --threads = 1|out fault size|err calcdb: wrong: over 4194304 bytes / image second = full 0 base 0 place 1: a=1 / calcdb run wrong --open second --threads = 1|out refused not an opening|err calcdb: second: not an opening
 remove second = - / remove wrong = -
 # how far a run is: each second look at the clock is a line, of the text's bytes and then of the steps of two calls
 write calls = proc set 2|put $0 $1|end|call 0 1 set 'a #1|call 0 2 set 'a #2

@@ -2,7 +2,7 @@ use Rattle.std.proofs.Common.{◌+◌, drop, subst}
 use Rattle.std.proofs.lemmas.Result.{err_from_is_err_and}
 use Rattle.calcdb.specs.Output.{entry_text, entries_text}
 use Rattle.procedure.proofs.WriteProgress.{Gone, all_gone, more_gone}
-use Rattle.calcdb.proofs.Shown.{next_entry, no_entry, stops_on}
+use Rattle.calcdb.proofs.Shown.{breaks_off_on, next_entry, no_entry}
 use Rattle.calcdb.proofs.show.write_entries.Goals as goal
 
 pub returns-in_err-write_entry-clause-err : goal.returns-in_err-write_entry-clause-err
@@ -11,7 +11,7 @@ returns-in_err-write_entry-clause-err g c =
     let x = c.entry-item.result in
     let all = c.args.entries.now in
     let p = err_from_is_err_and c.from_residual.result c.from_residual.ensures.1 in
-    rw (p.1, p.2) (stops_on (g.W.Write.contents c.args.writer.now) (g.W.Write.contents l.writer) (g.W.Write.contents c.write_entry.new.writer) (entries_text all)
+    rw (p.1, p.2) (breaks_off_on (g.W.Write.contents c.args.writer.now) (g.W.Write.contents l.writer) (g.W.Write.contents c.write_entry.new.writer) (entries_text all)
     (entries_text (drop l.entry-index all)) (entry_text x) (entries_text (drop (l.entry-index + 1) all)) c.in_err-write_entry.field-0.0
     l.invariant (next_entry all l.entry-index x c.loop-entry-test.true c.entry-item.is) c.in_err-write_entry.ensures.err)
 

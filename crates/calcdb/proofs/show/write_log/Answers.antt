@@ -1,9 +1,9 @@
-use Rattle.std.proofs.Common.{[], length, refl, sym}
+use Rattle.std.proofs.Common.{[], inl, length, refl, sym}
 use Rattle.std.proofs.lemmas.Result.{IfErr-weaker, err_from_is_err_and}
 use Rattle.std.proofs.lemmas.List.{append-nil}
 use Rattle.calcdb.specs.Showing.{count_text, log_text, records_text}
 use Rattle.procedure.proofs.WriteProgress.{more_gone, nothing_gone}
-use Rattle.calcdb.proofs.Shown.{stops_on}
+use Rattle.calcdb.proofs.Shown.{breaks_off_on, stops_in_front}
 use Rattle.calcdb.proofs.show.write_log.Goals as goal
 
 pub returns-in_err-write_count-clause-err : goal.returns-in_err-write_count-clause-err
@@ -12,8 +12,7 @@ returns-in_err-write_count-clause-err g c =
     let new = g.W.Write.contents c.write_count.new.writer in
     let rs = c.args.records.now in
     let p = err_from_is_err_and c.from_residual.result c.from_residual.ensures.1 in
-    rw (p.1, p.2) (stops_on old old new (log_text rs c.args.ending) (log_text rs c.args.ending) (count_text (length rs) c.args.ending) (records_text 0 rs) c.in_err-write_count.field-0.0
-    (nothing_gone old (log_text rs c.args.ending)) refl c.in_err-write_count.ensures.err)
+    rw (p.1, p.2) (stops_in_front old new (log_text rs c.args.ending) (count_text (length rs) c.args.ending) (records_text 0 rs) c.in_err-write_count.field-0.0 refl c.in_err-write_count.ensures.err)
 
 pub returns-clause-err : goal.returns-clause-err
 returns-clause-err g c =
@@ -23,4 +22,4 @@ returns-clause-err g c =
     let rs = c.args.records.now in
     let text = log_text rs c.args.ending in
     let gone = more_gone old old now text text (count_text (length rs) c.args.ending) (records_text 0 rs) (nothing_gone old text) refl c.in_ok-write_count.ensures.ok in
-    IfErr-weaker c.write_records.result _ _ (λ f h. stops_on old now new text (records_text 0 rs) (records_text 0 rs) [] f gone (sym (append-nil (records_text 0 rs))) h) c.write_records.ensures.err
+    IfErr-weaker c.write_records.result _ _ (λ f h. inl (breaks_off_on old now new text (records_text 0 rs) (records_text 0 rs) [] f gone (sym (append-nil (records_text 0 rs))) h)) c.write_records.ensures.err

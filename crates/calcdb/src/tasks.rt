@@ -1,0 +1,410 @@
+//! What the program does for each command.
+
+use crate::command_line::{RunFiles, Task};
+use crate::engine::{Ran, run_script};
+use crate::faults::failures::{Failure, OutFile};
+use crate::faults::refusals::{say_no_memory, write_fault};
+use crate::faults::subjects::{ImageFiles, Subject};
+use crate::faults::{Fault, Reason};
+use crate::files::{flush, input_of, read_file, read_files, read_input, write_image};
+use crate::merge_files::merge_files;
+use crate::new_files::NewFolder;
+use crate::other_images::{OtherImages, other_images};
+use crate::pairs::load;
+use crate::progress::{CountedBytes, CountedFiles, CountedLines, CountedSteps, Progress};
+use crate::recover_files::recover_files;
+use crate::run_folder::write_run;
+use crate::show::show;
+use crate::threads::run_threads;
+use image::{Image, Kind, ReadError, ReadFromError, read_from};
+use std::alloc::Allocator;
+use std::fs;
+use std::io::{Read, Write};
+use std::rt::Files;
+use std::sync::Wait;
+use std::thread::Threads;
+
+/// The image of a file. Where it is refused, one line on standard output says why.
+fn read_opening<'a, R: Files, O: Write, A: Allocator + Copy>(
+    alloc: A,
+    rt: &R,
+    name: &'a str,
+    out: &mut O,
+) -> Result<Image<A>, Failure<'a>>
+where
+    R::File: Drop,
+{
+    let Ok(mut file) = fs::open(rt, name) else {
+        return Err(Failure::CannotRead(name));
+    };
+    match read_from(alloc, &mut file) {
+        Ok(image) => Ok(image),
+        Err(ReadFromError::ReadFault) => Err(Failure::CannotRead(name)),
+        Err(ReadFromError::Image(ReadError::NoMemory)) => Err(Failure::NoMemory),
+        Err(ReadFromError::Image(refused)) => {
+            let fault = Fault::Refused(Reason::from(refused));
+            let fault = write_fault(alloc, out, fault);
+            Err(Failure::of_fault(fault, name, Subject::File(name)))
+        }
+    }
+}
+
+/// The image of the empty table.
+fn empty_opening<'a, A: Allocator>(alloc: A) -> Result<Image<A>, Failure<'a>> {
+    Image::new(Kind::Full, 0, 0, 0, Vec::new(alloc)).ok_or(Failure::NoMemory)
+}
+
+/// The image to open from: that of a file, or of the empty table.
+fn opening_of<'a, R: Files, O: Write, A: Allocator + Copy>(
+    alloc: A,
+    rt: &R,
+    name: Option<&'a str>,
+    out: &mut O,
+) -> Result<Image<A>, Failure<'a>>
+where
+    R::File: Drop,
+{
+    match name {
+        Some(name) => read_opening(alloc, rt, name, out),
+        None => empty_opening(alloc),
+    }
+}
+
+/// Writes what a run leaves into a folder, and returns which images there are of another run.
+fn fill_folder<'a, R: Files + Alloc, A: Allocator + Copy>(
+    alloc: A,
+    rt: &R,
+    mut folder: NewFolder<'a, A>,
+    ran: &Ran<A>,
+) -> Result<Option<OtherImages<'a>>, Failure<'a>>
+where
+    R::File: Drop,
+{
+    write_run(alloc, rt, &mut folder, ran)?;
+    Ok(other_images(rt, folder.path, ran.images.as_slice()))
+}
+
+/// Once the answers are out, writes what a run leaves where that is asked for.
+fn leave_run<'a, R: Files + Alloc, O: Write, A: Allocator + Copy>(
+    alloc: A,
+    rt: &R,
+    folder: Option<&'a str>,
+    ran: &Ran<A>,
+    out: &mut O,
+) -> Result<Option<OtherImages<'a>>, Failure<'a>>
+where
+    R::File: Drop,
+{
+    flush(out, Failure::CannotPrint)?;
+    match folder {
+        Some(path) => fill_folder(alloc, rt, NewFolder { alloc, path }, ran),
+        None => Ok(None),
+    }
+}
+
+/// The file of a run by which it is refused.
+fn refused_by<'a>(fault: &Fault, files: RunFiles<'a>) -> &'a str {
+    match fault {
+        Fault::Refused(Reason::NotAnOpening) => files.opening.unwrap_or(files.script),
+        _ => files.script,
+    }
+}
+
+/// Runs the script that a reader gives, in threads where there are some.
+fn run_reader<
+    T: Threads + Wait + Sync,
+    I: Read,
+    O: Write,
+    P: Progress + Sync,
+    A: Allocator + Copy + Send + Sync,
+>(
+    alloc: A,
+    threads: Option<&T>,
+    script: &mut I,
+    opening: Image<A>,
+    progress: Option<&P>,
+    out: &mut O,
+) -> Result<Ran<A>, Fault> {
+    match threads {
+        Some(threads) => {
+            let gate = CountedSteps::new(progress);
+            run_threads(threads, alloc, script, out, opening, &gate)
+        }
+        None => {
+            let mut lines = CountedLines::new(out, progress);
+            run_script(alloc, script, &mut lines, opening)
+        }
+    }
+}
+
+/// Runs a script over an opening, in threads where that is asked for.
+fn run_over<
+    'a,
+    T: Threads + Wait + Sync,
+    R: Files + Alloc,
+    I: Read,
+    O: Write,
+    P: Progress + Sync,
+    A: Allocator + Copy + Send + Sync,
+>(
+    alloc: A,
+    threads: &T,
+    rt: &R,
+    files: RunFiles<'a>,
+    opening: Image<A>,
+    stdin: &mut I,
+    progress: Option<&P>,
+    out: &mut O,
+) -> Result<Option<OtherImages<'a>>, Failure<'a>>
+where
+    R::File: Drop,
+{
+    let mut text = input_of(rt, files.script, stdin);
+    let mut script = CountedBytes::new(&mut text, progress);
+    let threads = if files.threads { Some(threads) } else { None };
+    match run_reader(alloc, threads, &mut script, opening, progress, out) {
+        Ok(ran) => {
+            let left = leave_run(alloc, rt, files.folder, &ran, out);
+            drop(ran);
+            left
+        }
+        Err(fault) => {
+            let subject = Subject::File(refused_by(&fault, files));
+            Err(Failure::of_fault(fault, files.script, subject))
+        }
+    }
+}
+
+/// Runs a script, and at its end writes its images and its log where that is asked for. The image to
+/// open from is read and checked before the script is looked for.
+fn run_task<
+    'a,
+    T: Threads + Wait + Sync,
+    R: Files + Alloc,
+    I: Read,
+    O: Write,
+    P: Progress + Sync,
+    A: Allocator + Copy + Send + Sync,
+>(
+    alloc: A,
+    threads: &T,
+    rt: &R,
+    files: RunFiles<'a>,
+    stdin: &mut I,
+    progress: Option<&P>,
+    out: &mut O,
+) -> Result<Option<OtherImages<'a>>, Failure<'a>>
+where
+    R::File: Drop,
+{
+    let opening = opening_of(alloc, rt, files.opening, out)?;
+    run_over(alloc, threads, rt, files, opening, stdin, progress, out)
+}
+
+/// What was read. Where there was no memory for it, one line on standard output says so.
+fn told<'a, T, O: Write>(out: &mut O, read: Result<T, Failure<'a>>) -> Result<T, Failure<'a>> {
+    match read {
+        Err(Failure::NoMemory) => {
+            let fault = say_no_memory(out);
+            Err(Failure::of_fault(fault, "", Subject::Unknown))
+        }
+        _ => read,
+    }
+}
+
+/// Makes a file of the image that a command made, once its standard output is out.
+fn write_made<'a, R: Files, O: Write, A: Allocator + Copy>(
+    alloc: A,
+    rt: &R,
+    image: &Image<A>,
+    name: &'a str,
+    out: &mut O,
+) -> Result<(), Failure<'a>>
+where
+    R::File: Drop,
+{
+    flush(out, Failure::CannotPrint)?;
+    write_image(alloc, rt, OutFile::Named(name), image)
+}
+
+/// Loads a file of pairs, and makes a file of their image.
+fn load_task<'a, R: Files, I: Read, O: Write, P: Progress, A: Allocator + Copy>(
+    alloc: A,
+    rt: &R,
+    pairs: &'a str,
+    name: &'a str,
+    stdin: &mut I,
+    progress: Option<&P>,
+    out: &mut O,
+) -> Result<(), Failure<'a>>
+where
+    R::File: Drop,
+{
+    let mut text = input_of(rt, pairs, stdin);
+    match load(alloc, &mut CountedBytes::new(&mut text, progress), out) {
+        Ok(image) => write_made(alloc, rt, &image, name, out),
+        Err(fault) => Err(Failure::of_fault(fault, pairs, Subject::File(pairs))),
+    }
+}
+
+/// Merges the images of files, and makes a file of the merged one.
+fn merge_task<'a, R: Files, O: Write, P: Progress, A: Allocator + Copy>(
+    alloc: A,
+    rt: &R,
+    name: &'a str,
+    names: &[&'a str],
+    progress: Option<&P>,
+    out: &mut O,
+) -> Result<(), Failure<'a>>
+where
+    R::File: Drop,
+{
+    let mut files = CountedFiles::of(names.len(), progress);
+    let read = told(out, read_files(alloc, rt, names, &mut files))?;
+    let bytes = read.as_slice();
+    match merge_files(alloc, bytes, out) {
+        Ok(image) => write_made(alloc, rt, &image, name, out),
+        Err(fault) => {
+            let subject = ImageFiles { names, bytes }.subject(alloc, &fault);
+            Err(Failure::of_fault(fault, name, subject))
+        }
+    }
+}
+
+/// The files of a recovery.
+#[derive(Clone, Copy)]
+struct Sources<'a, 'b> {
+    script: &'a str,
+    log: &'a str,
+    images: &'b [&'a str],
+}
+
+/// What the files of a recovery have: its script, its log and its images.
+type SourceBytes<A> = (Vec<u8, A>, Vec<u8, A>, Vec<Vec<u8, A>, A>);
+
+/// Reads the files of a recovery.
+fn read_sources<'a, R: Files, I: Read, P: Progress, A: Allocator + Copy>(
+    alloc: A,
+    rt: &R,
+    sources: Sources<'a, '_>,
+    stdin: &mut I,
+    progress: Option<&P>,
+) -> Result<SourceBytes<A>, Failure<'a>>
+where
+    R::File: Drop,
+{
+    // The script and the log come before the images.
+    let mut files = CountedFiles::of(sources.images.len().saturating_add(2), progress);
+    let script = read_input(alloc, rt, sources.script, stdin)?;
+    files.add_one();
+    let log = read_file(alloc, rt, sources.log)?;
+    files.add_one();
+    let images = read_files(alloc, rt, sources.images, &mut files)?;
+    Ok((script, log, images))
+}
+
+/// Recovers a table of files, and makes a file of its image.
+fn recover_task<'a, R: Files, I: Read, O: Write, P: Progress, A: Allocator + Copy>(
+    alloc: A,
+    rt: &R,
+    name: &'a str,
+    sources: Sources<'a, '_>,
+    stdin: &mut I,
+    progress: Option<&P>,
+    out: &mut O,
+) -> Result<(), Failure<'a>>
+where
+    R::File: Drop,
+{
+    let Sources {
+        script,
+        log,
+        images: names,
+    } = sources;
+    let read = read_sources(alloc, rt, sources, stdin, progress);
+    let (script_bytes, log_bytes, read) = told(out, read)?;
+    let bytes = read.as_slice();
+    match recover_files(
+        alloc,
+        script_bytes.as_slice(),
+        log_bytes.as_slice(),
+        bytes,
+        out,
+    ) {
+        Ok(image) => write_made(alloc, rt, &image, name, out),
+        Err(fault) => {
+            let images = ImageFiles { names, bytes };
+            let subject = images.recovered(alloc, &fault, (script, log));
+            Err(Failure::of_fault(fault, script, subject))
+        }
+    }
+}
+
+/// Prints what a file has.
+fn show_task<'a, R: Files, O: Write, A: Allocator + Copy>(
+    alloc: A,
+    rt: &R,
+    name: &'a str,
+    out: &mut O,
+) -> Result<(), Failure<'a>>
+where
+    R::File: Drop,
+{
+    let bytes = told(out, read_file(alloc, rt, name))?;
+    match show(alloc, bytes.as_slice(), out) {
+        Ok(()) => Ok(()),
+        Err(fault) => Err(Failure::of_fault(fault, name, Subject::File(name))),
+    }
+}
+
+/// Does a task, and returns which images of another run are in the folder that it wrote to.
+pub(crate) fn do_task<
+    'a,
+    T: Threads + Wait + Sync,
+    R: Files + Alloc,
+    I: Read,
+    O: Write,
+    P: Progress + Sync,
+    A: Allocator + Copy + Send + Sync,
+>(
+    alloc: A,
+    threads: &T,
+    rt: &R,
+    task: &Task<'a>,
+    stdin: &mut I,
+    progress: Option<&P>,
+    out: &mut O,
+) -> Result<Option<OtherImages<'a>>, Failure<'a>>
+where
+    R::File: Drop,
+{
+    match task {
+        Task::Run(files) => return run_task(alloc, threads, rt, *files, stdin, progress, out),
+        Task::Load {
+            pairs,
+            out: name,
+            progress: _,
+        } => load_task(alloc, rt, pairs, name, stdin, progress, out)?,
+        Task::Merge {
+            out: name,
+            images,
+            progress: _,
+        } => merge_task(alloc, rt, name, images.as_slice(), progress, out)?,
+        Task::Recover {
+            script,
+            log,
+            out: name,
+            images,
+            progress: _,
+        } => {
+            let sources = Sources {
+                script,
+                log,
+                images: images.as_slice(),
+            };
+            recover_task(alloc, rt, name, sources, stdin, progress, out)?
+        }
+        Task::Show { file } => show_task(alloc, rt, file, out)?,
+    }
+    Ok(None)
+}

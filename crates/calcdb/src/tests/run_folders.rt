@@ -1,0 +1,149 @@
+//! A folder in memory: which files of a run are made, in which order, with which names and bytes.
+
+ghost use Rattle.std.specs.Prelude.{◌≡◌};
+
+use crate::digesting::Telling;
+use crate::faults::failures::{Failure, OutFile, RunFile};
+use crate::run_folder::{RunFolder, write_run};
+use crate::tests::fixtures::{check_over, log_of_core};
+use image::{Image, seal};
+use procedure::streams::WriteError;
+use std::alloc::Global;
+use std::io::{self, Write};
+use std::process::Abort;
+use std::test::Fail;
+
+/// A file in memory, before it has a name.
+#[derive(Drop)]
+struct MemoryFile {
+    bytes: Vec<u8, Global>,
+}
+
+/// A file in memory that was made.
+#[derive(Drop)]
+struct MadeFile {
+    name: RunFile,
+    bytes: Vec<u8, Global>,
+}
+
+impl Write for MemoryFile {
+    ghost use Rattle.std.specs.Prelude.{Some};
+
+    ghost contents = { λ f. Some f.bytes.items };
+
+    fn write(&mut self, buf: &[u8]) -> io::Result<usize> {
+        self.bytes.write(buf)
+    }
+
+    fn flush(&mut self) -> io::Result<()> {
+        Ok(())
+    }
+}
+
+impl Telling for MemoryFile {
+    ghost use Rattle.calcdb.specs.RunFiles.{some_is_known};
+
+    ghost unknown = { λ one other h. some_is_known one.bytes.items h };
+}
+
+/// A folder in memory that takes at most `room` files.
+#[derive(Drop)]
+struct MemoryFolder {
+    alloc: Global,
+    made: Vec<MadeFile, Global>,
+    room: usize,
+}
+
+impl<R> RunFolder<R> for MemoryFolder {
+    ghost use Rattle.std.specs.Prelude.{◌≡◌, map, Some};
+
+    type Failure = Failure<'static>;
+
+    type Place = RunFile;
+
+    type File = MemoryFile;
+
+    ghost made = { λ folder. Some (map (λ f. (f.name, f.bytes.items)) folder.made.items) };
+
+    ghost takes = { λ place name. place ≡ name };
+
+    fn begin(&mut self, _rt: &R, name: RunFile) -> Result<(RunFile, MemoryFile), Failure<'static>> {
+        if self.made.len() >= self.room {
+            return Err(Failure::CannotWrite(OutFile::InFolder("memory", name)));
+        }
+        let bytes = Vec::new(self.alloc);
+        Ok((name, MemoryFile { bytes }))
+    }
+
+    fn end<T: Drop>(
+        &mut self,
+        _rt: &R,
+        name: RunFile,
+        file: MemoryFile,
+        written: Result<T, WriteError>,
+    ) -> Result<T, Failure<'static>> {
+        match written {
+            Ok(value) => {
+                let MemoryFile { bytes } = file;
+                self.made.push(MadeFile { name, bytes })?;
+                Ok(value)
+            }
+            Err(_) => Err(Failure::NoMemory),
+        }
+    }
+}
+
+const SCRIPT: &str =
+    "start full\nadvance\nadvance\nscan\nadvance\nimage\nadvance\nstart partial\nadvance\nadvance\nscan\nadvance\nimage\nadvance\n";
+
+const ANSWERS: &str = "\
+checkpoint 1\nphase resolve\nphase capture\nslots 1\nphase complete\nimage full 1 base 1 place 1 count 1\n'a #1\nphase rest\n\
+checkpoint 2\nphase resolve\nphase capture\nslots 0\nphase complete\nimage partial 2 base 1 place 6 count 0\nphase rest\n";
+
+/// The file at a place has this name and these bytes.
+fn check_file(rt: &impl Abort, folder: &MemoryFolder, place: usize, name: RunFile, bytes: &[u8]) {
+    let found = folder.made.get(place);
+    assert!(rt; found.is_some_and(|file| file.name == name && file.bytes.as_slice() == bytes));
+}
+
+fn check_image(
+    rt: &impl Abort,
+    folder: &MemoryFolder,
+    place: usize,
+    image: &Image<Global>,
+) -> Result<(), Fail> {
+    let bytes = seal(folder.alloc, image)?;
+    check_file(
+        rt,
+        folder,
+        place,
+        RunFile::Image(place as u64),
+        bytes.as_slice(),
+    );
+    Ok(())
+}
+
+/// Files are made in their order until there is no room for one.
+#[test]
+fn files_in_memory(rt: HostRuntime) -> Result<(), Fail> {
+    let alloc = rt.alloc();
+    let ran = check_over(&rt, "run", SCRIPT, "'a #1\n", ANSWERS)?;
+    let log = log_of_core(alloc, &ran.core)?;
+    for room in 0..=4 {
+        let mut folder = MemoryFolder {
+            alloc,
+            made: Vec::new(alloc),
+            room,
+        };
+        let written = write_run(alloc, &rt, &mut folder, &ran);
+        assert_eq!(rt; (written.is_ok(), folder.made.len()), (room == 4, room));
+        if room == 4 {
+            check_image(&rt, &folder, 0, ran.core.opening())?;
+            for (place, image) in ran.images.iter().enumerate() {
+                check_image(&rt, &folder, place + 1, image)?;
+            }
+            check_file(&rt, &folder, 3, RunFile::Log, log.as_slice());
+        }
+    }
+    Ok(())
+}
