@@ -9,9 +9,11 @@ for script in bank conflict upgrade checkpoint; do
 done
 diff <(./tour.sh) tour.expected
 echo "tour.sh: as expected"
-for shown in README.md=embedding docs/EMBEDDING.md=service; do
-    page=${shown%=*} test=${shown#*=}
-    diff <(sed -n '/^```rust$/,/^```$/p' "../$page" | sed '1d;$d') <(tail -n +3 "../crates/calcdb/src/tests/$test.rt")
+# A page, which of its programs, and the test that it is.
+for shown in README.md=1=embedding docs/EMBEDDING.md=1=service docs/EMBEDDING.md=2=live_log; do
+    IFS='=' read -r page place test <<< "$shown"
+    diff <(awk -v place="$place" '/^```rust$/ { inside = ++count == place; next } /^```$/ { inside = 0 } inside' "../$page") \
+        <(tail -n +3 "../crates/calcdb/src/tests/$test.rt")
     echo "$page: shows the test $test as it is"
 done
 ./threads.sh

@@ -1,8 +1,10 @@
 -- What files of images say as one image, and how their merge ends.
-use Rattle.std.specs.Prelude.{◌≡◌, List, [], ◌∷◌, Some, None, Option, Result, Ok, Err}
+use Rattle.std.specs.Prelude.{◌≡◌, ◌⊎◌, List, Option, Result, Ok, Err}
 use Rattle.procedure.specs.Bytes.{Bytes}
 use Rattle.image.specs.Images.{Image}
-use Rattle.image.specs.Merges.{Refusal, merged_image, refusal_of}
+use Rattle.image.specs.Mergers as in_turn
+use Rattle.image.specs.Mergers.{Merging}
+use Rattle.image.specs.declared.merges.MergeError.{MergeError}
 use Rattle.calcdb.specs.ImageFiles.{AreRead}
 use Rattle.calcdb.specs.Output.{header_line}
 use Rattle.calcdb.specs.Reasons.{merge_reason}
@@ -11,14 +13,14 @@ use Rattle.calcdb.specs.declared.faults.Fault.{Fault}
 use Rattle.calcdb.specs.declared.faults.Reason.{Reason}
 use Rattle.calcdb.specs.declared.faults.Reason.TheVariants as reason
 
-abbrev pub unless_refused : Image → Refusal → Result Image Reason
-unless_refused i None = Ok i
-unless_refused i (Some e) = Err (merge_reason e)
+-- in the words of the program
+abbrev pub merge_in_words : Result Image MergeError → Result Image Reason
+merge_in_words (Ok i) = Ok i
+merge_in_words (Err e) = Err (merge_reason e)
 
 -- images as one, the first with the rest, or why they aren't merged
 abbrev pub merge_of : List Image → Result Image Reason
-merge_of [] = Err reason.NotFull
-merge_of (full ∷ ps) = unless_refused (merged_image full ps) (refusal_of full ps)
+merge_of is = merge_in_words (in_turn.merge_of is)
 
 -- what was read, as one
 abbrev pub merge_of_read : Result (List Image) Reason → Result Image Reason
@@ -28,6 +30,16 @@ merge_of_read (Err r) = Err r
 -- what files of images say as one: the first that spells none is refused, and else the merge
 abbrev pub IsMerge : List Bytes → Result Image Reason → Type 0
 IsMerge files says = (read : Result (List Image) Reason) × AreRead files read × (says ≡ merge_of_read read)
+
+-- what is kept of files of images that were read so
+abbrev pub kept_of : Result (List Image) Reason → Result Merging Reason
+kept_of (Ok is) = Ok (in_turn.after is)
+kept_of (Err r) = Err r
+
+-- this is kept of these files, which came in turn, or there was no memory for it
+pub record HasTaken (files : List Bytes) (kept : Result Merging Reason) : Type 0 where
+  pub some : (kept ≡ Err reason.NoMemory) ⊎ ((read : Result (List Image) Reason) × AreRead files read × (kept ≡ kept_of read))
+  pub only : (read : Result (List Image) Reason) → AreRead files read → (kept ≡ kept_of read) ⊎ (kept ≡ Err reason.NoMemory)
 
 -- want of memory, or why they aren't merged
 abbrev pub IsMergeFault : List Bytes → Fault → Type 0

@@ -1,11 +1,12 @@
 -- What is recovered of the files that a history left: a script with its procedures, its log, and images of it.
-use Rattle.std.specs.Prelude.{◌≡◌, ◌⊎◌, ◌<◌, ◌++◌, ℕ, List, [], ◌∷◌, drop, length, Result, Ok, Err}
+use Rattle.std.specs.Prelude.{◌≡◌, ◌⊎◌, ◌<◌, ◌++◌, IfErr, IfOk, ℕ, List, [], ◌∷◌, drop, length, Result, Ok, Err}
 use Rattle.std.specs.List.{AllByRecursion, Contains}
 use Rattle.procedure.specs.Bytes.{Bytes}
 use Rattle.procedure.specs.Procedures.{Procedure}
 use Rattle.commitlog.specs.Cuts.{HasCut}
 use Rattle.commitlog.specs.Histories.{after}
-use Rattle.commitlog.specs.LogReadings.{Log, IsReading}
+use Rattle.commitlog.specs.LogBytes.{Fits, log_bytes}
+use Rattle.commitlog.specs.LogReadings.{Log, IsHeader, IsReading}
 use Rattle.commitlog.specs.Records.{Record}
 use Rattle.commitlog.specs.declared.decoding.Ending.{Ending}
 use Rattle.commitlog.specs.declared.formats.LogHeader.{LogHeader}
@@ -19,7 +20,7 @@ use Rattle.replay.specs.Recovery.{IsRecovery, Recovery}
 use Rattle.replay.specs.Replays.{calls_in, is_torn}
 use Rattle.replay.specs.declared.errors.RecoverError.{RecoverError}
 use Rattle.replay.specs.declared.errors.RecoverError.TheVariants as refused
-use Rattle.steps.specs.CoreViews.{CoreView}
+use Rattle.steps.specs.CoreViews.{CoreView, table_now}
 use Rattle.calcdb.specs.ImageFiles.{Spell}
 use Rattle.calcdb.specs.Recovering.{recovery_in_words, as_fault, recovered_image}
 use Rattle.calcdb.specs.Refusing.{no_memory}
@@ -69,6 +70,14 @@ AreRecovered core is =
     IsChain full ps → length ps < IMAGES → AllByRecursion (Contains is) (full ∷ ps) → FromImages core.catalog (full ∷ ps) text x →
     (m left : List Record) × (core.log ≡ m ++ left) × (e : Ending) × IsReading text (Log v h m e) ×
     (HasCut m (last_of full ps).number → Recovers core.catalog core.opening (last_of full ps).place m e x)
+
+-- and of the whole log, from each such chain: its table, which a renewal opens the next core with
+abbrev pub GivesTableNow : CoreView → List Image → Type 0
+GivesTableNow core is =
+    (v : Version) (h : LogHeader) (full : Image) (ps : List Image) (x : Result Recovery RecoverError) →
+    IsHeader h → AllByRecursion (Fits v) core.log → NamesCatalog h core.catalog → NamesOpening v h core.opening →
+    IsChain full ps → length ps < IMAGES → AllByRecursion (Contains is) (full ∷ ps) → FromImages core.catalog (full ∷ ps) (log_bytes v h core.log) x →
+    IfOk x (λ r. r.state ≡ table_now core) × IfErr x (λ e. e ≡ refused.NoMemory)
 
 -- PARTS
 

@@ -6,8 +6,9 @@ ghost use Rattle.steps.specs.CoreViews.{CoreView};
 ghost use Rattle.steps.specs.Schedules.{HandlesAll, images_in};
 ghost use Rattle.steps.specs.declared.schedules.Event.{Event};
 ghost use Rattle.steps.specs.declared.schedules.Handled.{Handled};
-ghost use Rattle.calcdb.specs.OwnFiles.{AreItsImages, AreRecovered, HasHistory};
+ghost use Rattle.calcdb.specs.OwnFiles.{AreItsImages, AreRecovered, GivesTableNow, HasHistory};
 
+use commitlog::laws::written_log_law;
 use replay::laws::{fronts_law, openings_law};
 use std::alloc::Allocator;
 use steps::Core;
@@ -15,15 +16,18 @@ use steps::Core;
 /// The log of every core, and its opening with the images that events took of it, are as a recovery of its
 /// files asks for. So of each front of the log's bytes, and each chain of at most 64 of these images,
 /// `recover` gives the table after the records that stand whole in the front, or is out of memory. The
-/// opening alone is such a chain.
+/// opening alone is such a chain. Of the whole log it gives the core's table, with which `Core::renew` opens
+/// the next core.
 pub(crate) fn recovery_law<A: Allocator>(core: &Core<A>)
     ensures history { HasHistory core.now }
     ensures images { (first : CoreView) (events : List (Event A)) (each : List (Handled A)) → HandlesAll events first core.now each → AreItsImages core.now (core.now.opening ∷ images_in each) }
     ensures recovered { (first : CoreView) (events : List (Event A)) (each : List (Handled A)) → HandlesAll events first core.now each → AreRecovered core.now (core.now.opening ∷ images_in each) }
+    ensures whole { (first : CoreView) (events : List (Event A)) (each : List (Handled A)) → HandlesAll events first core.now each → GivesTableNow core.now (core.now.opening ∷ images_in each) }
 {
     // Brings in what holds of the log and of the opening of every core.
     let _records = core.records();
     let _entries = core.opening().entries();
     fronts_law();
     openings_law();
+    written_log_law();
 }

@@ -2,10 +2,12 @@
 //! images, merges images, recovers tables from images and logs, and prints both.
 //!
 //! The definitions are in `specs/`: the text of a script (`Lines`, `LineByLine`, `Values`,
-//! `Instructions`, `Preambles`, `Commands`, `ThreadCommands`, `Scripts`), the text of answers (`Output`, `Reasons`), what commands do to a core
-//! (`Runs`), how a run ends (`Outcomes`), the image of a text of pairs (`Pairs`), what files of images
-//! say, merged and recovered with a log (`ImageFiles`, `Merging`, `Recovering`, `OwnFiles`), what a file
-//! prints (`Showing`), how these commands end (`Refusing`), and the command line (`CommandLines`).
+//! `Instructions`, `Preambles`, `Commands`, `ThreadCommands`, `Scripts`), the text of answers (`Output`,
+//! `Reasons`), what commands do to a core (`Runs`), how a run ends (`Outcomes`), the image of a text of
+//! pairs (`Pairs`), what files of images say, merged and recovered with a log (`ImageFiles`, `Merging`,
+//! `Recovering`, `OwnFiles`), what a file prints (`Showing`), how these commands end (`Refusing`), the
+//! files that a run leaves (`RunFiles`), the statuses and the fixed lines of standard error (`Failures`),
+//! and the command line (`CommandLines`).
 #![tactic(auto)]
 
 mod command_line;

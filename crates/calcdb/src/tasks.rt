@@ -7,7 +7,7 @@ use crate::faults::refusals::{say_no_memory, write_fault};
 use crate::faults::subjects::{ImageFiles, Subject};
 use crate::faults::{Fault, Reason};
 use crate::files::{flush, input_of, read_file, read_files, read_input, write_image};
-use crate::merge_files::merge_files;
+use crate::merge_files::{Kept, before_files, end_merge, with_file};
 use crate::new_files::NewFolder;
 use crate::other_images::{OtherImages, other_images};
 use crate::pairs::load;
@@ -247,6 +247,30 @@ where
     }
 }
 
+/// Reads the files of images one after another, each into the merge of those before it. Of the first
+/// that isn't merged the name comes too; those after it are read all the same.
+fn read_merge<'a, R: Files, P: Progress + Drop, A: Allocator + Copy>(
+    alloc: A,
+    rt: &R,
+    names: &[&'a str],
+    counted: &mut CountedFiles<P>,
+) -> Result<(Kept<A>, Option<&'a str>), Failure<'a>>
+where
+    R::File: Drop,
+{
+    let mut kept = before_files(alloc);
+    let mut unread = None;
+    for name in names {
+        let bytes = read_file(alloc, rt, name)?;
+        counted.add_one();
+        kept = with_file(alloc, kept, bytes.as_slice());
+        if kept.is_err() && unread.is_none() {
+            unread = Some(*name);
+        }
+    }
+    Ok((kept, unread))
+}
+
 /// Merges the images of files, and makes a file of the merged one.
 fn merge_task<'a, R: Files, O: Write, P: Progress, A: Allocator + Copy>(
     alloc: A,
@@ -260,12 +284,11 @@ where
     R::File: Drop,
 {
     let mut files = CountedFiles::of(names.len(), progress);
-    let read = told(out, read_files(alloc, rt, names, &mut files))?;
-    let bytes = read.as_slice();
-    match merge_files(alloc, bytes, out) {
+    let (kept, unread) = told(out, read_merge(alloc, rt, names, &mut files))?;
+    match end_merge(alloc, kept, out) {
         Ok(image) => write_made(alloc, rt, &image, name, out),
         Err(fault) => {
-            let subject = ImageFiles { names, bytes }.subject(alloc, &fault);
+            let subject = ImageFiles { names }.subject(&fault, unread.as_ref());
             Err(Failure::of_fault(fault, name, subject))
         }
     }
@@ -333,8 +356,8 @@ where
     ) {
         Ok(image) => write_made(alloc, rt, &image, name, out),
         Err(fault) => {
-            let images = ImageFiles { names, bytes };
-            let subject = images.recovered(alloc, &fault, (script, log));
+            let images = ImageFiles { names };
+            let subject = images.recovered(alloc, &fault, (script, log), bytes);
             Err(Failure::of_fault(fault, script, subject))
         }
     }

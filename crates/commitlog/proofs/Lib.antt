@@ -5,7 +5,8 @@ pub mod Cuts
 pub mod Written
 pub mod Finished
 pub mod Growth
-pub mod Writings
+pub mod Takings
+pub mod Sending
 pub mod Manys
 pub mod Fields
 pub mod BodyLaws

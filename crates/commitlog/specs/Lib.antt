@@ -8,3 +8,6 @@ pub mod BodyReading
 pub mod LogTexts
 pub mod LogReadings
 pub mod Streams
+pub mod Pieces
+pub mod PieceLaws
+pub mod LogWriters

@@ -11,11 +11,11 @@ ghost use Rattle.commitlog.specs.Records.{IsInRange, Token, call_of};
 ghost use Rattle.commitlog.specs.declared.encoding.EncodeError.TheVariants as refused;
 ghost use Rattle.commitlog.specs.LogBytes.{Fits, IsReply, IsValue, IsWithin, answer_bytes, arguments_bytes, body, call_head, first_digest, log_header_bytes, log_bytes, next_digest, phase_code, record_bytes, records_bytes, reply_bytes, value_bytes};
 
+use crate::body_writing::write_body;
 use crate::formats::{LogHeader, Version};
 use crate::limits::VALUE_BYTES_V1;
 use crate::records::{Entry, Record};
-use phase::Phase;
-use procedure::bytes::{chained_digest, write_u16, write_u32, write_u64};
+use procedure::bytes::{chained_digest, write_u32};
 use procedure::{Call, NoMemory, Sequence, Value};
 use sha2::{Digest, Sha256};
 use std::alloc::{AllocError, AllocFailed, Allocator};
@@ -54,141 +54,6 @@ impl From<NoMemory> for EncodeError {
 
     fn from(_refused: NoMemory) -> Self {
         EncodeError::NoMemory
-    }
-}
-
-fn phase_code(phase: Phase) -> u8
-    ensures { result ≡ phase_code phase }
-{
-    match phase {
-        Phase::Rest => 0,
-        Phase::Prepare => 1,
-        Phase::Resolve => 2,
-        Phase::Capture => 3,
-        Phase::Complete => 4,
-    }
-}
-
-fn write_value<A: Allocator>(out: &mut Vec<u8, A>, value: &Value<A>) -> Result<(), NoMemory>
-    ensures { OnOk result (out.new.items ≡ out.old.items ++ value_bytes value.now) }
-{
-    let bytes = value.as_bytes();
-    write_u16(out, bytes.len() as u16)?;
-    out.extend_from_slice(bytes)?;
-    Ok(())
-}
-
-fn write_reply<A: Allocator>(out: &mut Vec<u8, A>, reply: &Option<Value<A>>) -> Result<(), NoMemory>
-    ensures { OnOk result (out.new.items ≡ out.old.items ++ reply_bytes reply.now) }
-{
-    match reply {
-        None => Ok(out.push(0)?),
-        Some(value) => {
-            out.push(1)?;
-            write_value(out, value)
-        }
-    }
-}
-
-fn write_values<A: Allocator>(out: &mut Vec<u8, A>, values: &[Value<A>]) -> Result<(), NoMemory>
-    ensures { OnOk result (out.new.items ≡ out.old.items ++ flat_map value_bytes values.now) }
-{
-    for value in values {
-        write_value(out, value)?;
-    }
-    Ok(())
-}
-
-fn write_replies<A: Allocator>(
-    out: &mut Vec<u8, A>,
-    replies: &[Option<Value<A>>],
-) -> Result<(), NoMemory>
-    ensures { OnOk result (out.new.items ≡ out.old.items ++ flat_map reply_bytes replies.now) }
-{
-    for reply in replies {
-        write_reply(out, reply)?;
-    }
-    Ok(())
-}
-
-fn write_arguments<A: Allocator>(out: &mut Vec<u8, A>, args: &[Value<A>]) -> Result<(), NoMemory>
-    requires { length args.now ≤ ARGUMENTS }
-    ensures { OnOk result (out.new.items ≡ out.old.items ++ arguments_bytes args.now) }
-{
-    out.push(args.len() as u8)?;
-    write_values(out, args)
-}
-
-fn write_answer<A: Allocator>(
-    out: &mut Vec<u8, A>,
-    outcome: u8,
-    replies: &[Option<Value<A>>],
-) -> Result<(), NoMemory>
-    requires { length replies.now ≤ REPLIES }
-    ensures { OnOk result (out.new.items ≡ out.old.items ++ answer_bytes outcome replies.now) }
-{
-    out.extend_from_slice(&[outcome, replies.len() as u8])?;
-    write_replies(out, replies)
-}
-
-fn write_head<A: Allocator>(out: &mut Vec<u8, A>, call: &Call<A>) -> Result<(), NoMemory>
-    ensures { OnOk result (out.new.items ≡ out.old.items ++ call_head call.now.session call.now.number call.now.procedure) }
-{
-    write_u16(out, call.session)?;
-    write_u64(out, call.number)?;
-    write_u16(out, call.procedure)
-}
-
-fn write_token<A: Allocator>(
-    out: &mut Vec<u8, A>,
-    phase: Phase,
-    number: u64,
-) -> Result<(), NoMemory>
-    ensures { OnOk result (out.new.items ≡ out.old.items ++ body (Token phase number)) }
-{
-    out.extend_from_slice(&[0, phase_code(phase)])?;
-    write_u64(out, number)
-}
-
-fn write_parts<A: Allocator>(
-    out: &mut Vec<u8, A>,
-    args: &[Value<A>],
-    outcome: u8,
-    replies: &[Option<Value<A>>],
-) -> Result<(), NoMemory>
-    requires arguments { length args.now ≤ ARGUMENTS }
-    requires replies { length replies.now ≤ REPLIES }
-    ensures { OnOk result (out.new.items ≡ out.old.items ++ (arguments_bytes args.now ++ answer_bytes outcome replies.now)) }
-{
-    write_arguments(out, args)?;
-    write_answer(out, outcome, replies)
-}
-
-fn write_call<A: Allocator>(
-    out: &mut Vec<u8, A>,
-    call: &Call<A>,
-    outcome: u8,
-    replies: &[Option<Value<A>>],
-) -> Result<(), NoMemory>
-    requires arguments { length call.now.args ≤ ARGUMENTS }
-    requires replies { length replies.now ≤ REPLIES }
-    ensures { OnOk result (out.new.items ≡ out.old.items ++ body (call_of call.now outcome replies.now)) }
-{
-    out.push(1)?;
-    write_head(out, call)?;
-    write_parts(out, call.args.as_slice(), outcome, replies)
-}
-
-fn write_body<A: Allocator>(out: &mut Vec<u8, A>, record: &Record<A>) -> Result<(), NoMemory>
-    ensures { OnOk result (out.new.items ≡ out.old.items ++ body «record».now) }
-{
-    match record.entry() {
-        Entry::Token { phase, number } => write_token(out, *phase, *number),
-        Entry::Call {
-            call,
-            outcome,
-            replies,
-        } => write_call(out, call, *outcome, replies.as_slice()),
     }
 }
 
@@ -232,7 +97,7 @@ fn replies_length<A: Allocator>(replies: &[Option<Value<A>>]) -> usize
 }
 
 /// The bytes of a record's body.
-fn body_length<A: Allocator>(record: &Record<A>) -> usize
+pub(crate) fn body_length<A: Allocator>(record: &Record<A>) -> usize
     ensures length { result ≡ length (body «record».now) }
     ensures fits { Fits Two «record».now }
     ensures most { result ≤ BODY_BYTES }
@@ -293,7 +158,11 @@ pub(crate) fn write_record<A: Allocator>(
     out.reserve(4 + length + 32)?;
     write_u32(out, length as u32)?;
     let start = out.len();
-    write_body(out, record)?;
+    write_body(out, record);
+    // Room was made for it. A piece that found none would be missing.
+    if out.len() < start + length {
+        return Err(NoMemory);
+    }
     let digest = chained_digest(digest, &out[start..]);
     out.extend_from_slice(&digest)?;
     Ok(digest)

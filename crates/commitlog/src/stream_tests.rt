@@ -126,6 +126,58 @@ fn written_a_byte_a_call(rt: HostRuntime) -> Result<(), Fail> {
     Ok(())
 }
 
+/// What a log that is written record by record leaves at a writer that takes `calls` calls, and how many
+/// records it took.
+fn sent_one_by_one(
+    alloc: Global,
+    most: usize,
+    calls: usize,
+    records: &[Record<Global>],
+) -> (Vec<u8, Global>, usize) {
+    let sink = Sink {
+        kept: Vec::new(alloc),
+        most,
+        calls,
+    };
+    let mut log = match LogWriter::new(sink, &HEADER) {
+        Ok(log) => log,
+        Err(sink) => return (sink.kept, 0),
+    };
+    let taken = records
+        .iter()
+        .filter(|record| log.append(record).is_ok())
+        .count();
+    (log.into_writer().kept, taken)
+}
+
+/// Three calls for the header and four for a token. Where one fails nothing more goes out.
+#[test]
+fn written_one_by_one(rt: HostRuntime) -> Result<(), Fail> {
+    let alloc = rt.alloc();
+    let whole = encoded(alloc)?;
+    let records = three_tokens(alloc)?;
+    for (calls, length, count) in [
+        (0, 0, 0),
+        (2, 40, 0),
+        (3, 72, 0),
+        (4, 76, 0),
+        (6, 86, 0),
+        (7, 118, 1),
+        (14, 178, 2),
+        (15, 210, 3),
+    ] {
+        let (kept, taken) = sent_one_by_one(alloc, usize::MAX, calls, &records);
+        assert_eq!(rt; (kept.len(), taken), (length, count));
+        assert!(rt; whole.as_slice().starts_with(&kept));
+    }
+    for calls in 0..211 {
+        let (kept, _taken) = sent_one_by_one(alloc, 1, calls, &records);
+        assert_eq!(rt; kept.len(), calls.min(210));
+        assert!(rt; whole.as_slice().starts_with(&kept));
+    }
+    Ok(())
+}
+
 #[test]
 fn write_of_no_byte(rt: HostRuntime) -> Result<(), Fail> {
     let (kept, refused) = sent(rt.alloc(), 0, 1)?;
@@ -202,6 +254,21 @@ fn again(alloc: Global, records: &[Record<Global>]) -> Result<StoredLog<Global>,
         calls: 1_000,
     };
     Ok(read_log_from(alloc, &mut source)?)
+}
+
+/// Calls with long values, of which each field goes out by itself.
+#[test]
+fn each_kind_one_by_one(rt: HostRuntime) -> Result<(), Fail> {
+    let alloc = rt.alloc();
+    let records = each_kind(alloc)?;
+    if records.len() > limits::LOG_RECORDS {
+        return Err("too many".into());
+    }
+    let whole = encode(alloc, &HEADER, &records)?;
+    let (kept, taken) = sent_one_by_one(alloc, 100, 1_000, &records);
+    assert_eq!(rt; taken, 8);
+    assert_eq!(rt; kept.as_slice(), whole.as_slice());
+    Ok(())
 }
 
 /// Each record on a line.

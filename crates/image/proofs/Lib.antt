@@ -18,3 +18,4 @@ pub mod Spellings
 pub mod ReadAnswers
 pub mod Rooms
 pub mod Arrivals
+pub mod Pushes

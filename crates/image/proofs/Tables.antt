@@ -53,7 +53,7 @@ value_at-with_cell : (t : Table) (k : Bytes) (x : Cell) (q : Bytes) → value_at
 value_at-with_cell t k None q = get-remove nat_list_cmp_total t k q
 value_at-with_cell t k (Some v) q = get-insert nat_list_cmp_total t k v q
 
-value_at-with_cells : (t : Table) (es : List Entry) (q : Bytes) → value_at (with_cells t es) q ≡ changed_or (find by_bytes q es) (value_at t q)
+pub value_at-with_cells : (t : Table) (es : List Entry) (q : Bytes) → value_at (with_cells t es) q ≡ changed_or (find by_bytes q es) (value_at t q)
 value_at-with_cells t [] q = refl
 value_at-with_cells t (e ∷ es) q =
     value_at-with_cell (with_cells t es) e.0 e.1 q
@@ -69,7 +69,7 @@ unfolding no_table
 value_at-no_table q = get-empty by_bytes q
 
 -- what it holds after the changes of an image, and of several
-value_at-changed : (t : Table) (i : Image) (q : Bytes) → value_at (merged t (changes_of i)) q ≡ changed_or (find by_bytes q i.entries) (value_at t q)
+pub value_at-changed : (t : Table) (i : Image) (q : Bytes) → value_at (merged t (changes_of i)) q ≡ changed_or (find by_bytes q i.entries) (value_at t q)
 value_at-changed t i q = value_at-merged t (changes_of i) q ∙ ap (λ o. changed_or o (value_at t q)) (get-from_entries nat_list_cmp_total i.entries q)
 
 in_turn : (a b : Option Cell) (x : Cell) → changed_or a (changed_or b x) ≡ changed_or (option_or a b) x

@@ -1,6 +1,7 @@
 pub mod Images
 pub mod Views
 pub mod Merges
+pub mod Mergers
 pub mod Openings
 pub mod Joins
 pub mod EntryBytes

@@ -234,7 +234,8 @@ fn present_entries<A: Allocator>(
         .collect(alloc)
 }
 
-fn entries_of_table<A: Allocator + Clone>(
+/// The entries of a table, in the byte order of their keys.
+pub(crate) fn entries_of_table<A: Allocator + Clone>(
     alloc: A,
     table: Table<A>,
 ) -> Result<Vec<Entry<A>, A>, NoMemory>

@@ -2,8 +2,8 @@
 //! its header and entries that came in any order.
 //!
 //! The definitions are in `specs/`: images (`Images`), their bytes in both versions (`ImageBytes`), how
-//! other bytes are refused (`Refusals`), the merge of a chain (`Merges`), and headers with the digest of
-//! their entries (`Headers`).
+//! other bytes are refused (`Refusals`), the merge of a chain (`Merges`) and of one whose images come one
+//! after another (`Mergers`), and headers with the digest of their entries (`Headers`).
 #![tactic(auto)]
 
 #[cfg(test)]
@@ -17,6 +17,7 @@ pub mod headers;
 pub mod images;
 pub mod laws;
 pub mod limits;
+pub mod mergers;
 pub mod merges;
 pub mod reading;
 pub mod sealing;
@@ -30,6 +31,7 @@ pub use entries::Entry;
 pub use errors::{ReadError, SealError};
 pub use headers::{AssembleError, Header, NO_ENTRIES, assemble, link};
 pub use images::{Image, Kind, OpeningError};
+pub use mergers::Merger;
 pub use merges::{MergeError, merge};
 pub use reading::read_image;
 pub use sealing::{seal, seal_v1};

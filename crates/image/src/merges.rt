@@ -1,6 +1,6 @@
 //! The merge of a chain of images.
 
-ghost use Rattle.std.specs.Prelude.{◌≡◌, ◌∷◌, Err, IfOk, OnOk, Some, is_some, length};
+ghost use Rattle.std.specs.Prelude.{◌≡◌, [], ◌∷◌, Err, IfOk, OnOk, Some, is_some, length};
 ghost use Rattle.std.specs.Ordering.{nat_cmp};
 ghost use Rattle.std.specs.Cmp.Lexicographic.{slice_cmp};
 ghost use Rattle.std.specs.Result.{result_err};
@@ -73,18 +73,30 @@ impl From<NoMemory> for MergeError {
     }
 }
 
+/// Whether the image at a place is partial, and based on this number.
+pub(crate) fn check_link<A: Allocator>(
+    place: usize,
+    number: u64,
+    partial: &Image<A>,
+) -> Result<(), MergeError>
+    ensures { result_err result ≡ links_refusal place number (partial.now ∷ []) }
+{
+    if partial.kind() != Kind::Partial {
+        return Err(MergeError::NotPartial(place));
+    }
+    if partial.base() != number {
+        return Err(MergeError::Gap(place));
+    }
+    Ok(())
+}
+
 /// Whether the images are partial, and each is based on the one before it.
 fn check_links<A: Allocator>(number: u64, partials: &[Image<A>]) -> Result<(), MergeError>
     ensures { result_err result ≡ links_refusal 0 number partials.now }
 {
     let mut before = number;
     for (place, partial) in partials.iter().enumerate() {
-        if partial.kind() != Kind::Partial {
-            return Err(MergeError::NotPartial(place));
-        }
-        if partial.base() != before {
-            return Err(MergeError::Gap(place));
-        }
+        check_link(place, before, partial)?;
         before = partial.number();
     }
     Ok(())

@@ -203,6 +203,36 @@ fn merged_chain(rt: HostRuntime) -> Result<(), Fail> {
     Ok(())
 }
 
+/// Kind, number, base, place and entries of an image.
+type Parts = (Kind, u64, u64, u64, &'static [Given]);
+
+/// Number, place and entries of a merged image.
+type Whole = (u64, u64, &'static [Given]);
+
+const FIRST: Parts = (Kind::Full, 1, 1, 1, &[(b'a', Some(1)), (b'b', Some(2))]);
+
+const SECOND: Parts = (Kind::Partial, 2, 1, 5, &[(b'a', None), (b'c', Some(7))]);
+
+const THIRD: Parts = (Kind::Partial, 3, 2, 9, &[(b'b', Some(9))]);
+
+/// Images in turn, and what they are as one.
+const IN_TURN: [(&[Parts], Result<Whole, MergeError>); 8] = [
+    (&[], Err(MergeError::NotFull)),
+    (&[FIRST], Ok((1, 1, &[(b'a', Some(1)), (b'b', Some(2))]))),
+    (
+        &[FIRST, SECOND],
+        Ok((2, 5, &[(b'b', Some(2)), (b'c', Some(7))])),
+    ),
+    (
+        &[FIRST, SECOND, THIRD],
+        Ok((3, 9, &[(b'b', Some(9)), (b'c', Some(7))])),
+    ),
+    (&[FIRST, THIRD, THIRD], Err(MergeError::Gap(0))),
+    (&[FIRST, SECOND, SECOND], Err(MergeError::Gap(1))),
+    (&[FIRST, SECOND, FIRST], Err(MergeError::NotPartial(1))),
+    (&[SECOND, THIRD, FIRST], Err(MergeError::NotFull)),
+];
+
 /// The refusal of a merge, and none where it succeeds.
 fn refused(alloc: Global, full: &Image<Global>, partials: &[Image<Global>]) -> Option<MergeError> {
     merge(alloc, full, partials).err()
@@ -222,6 +252,38 @@ fn merge_refusals(rt: HostRuntime) -> Result<(), Fail> {
     assert_eq!(rt; refused(alloc, &first, two_full.as_slice()), not_partial);
     let lone = partial(alloc, 2, 1, 5, &[])?;
     assert_eq!(rt; refused(alloc, &lone, &[]), Some(MergeError::NotFull));
+    Ok(())
+}
+
+/// What images are as one that come in turn.
+fn merged_in_turn(
+    alloc: Global,
+    images: Vec<Image<Global>>,
+) -> Result<Result<Image<Global>, MergeError>, Fail> {
+    let mut merger = Merger::new(alloc);
+    for image in images {
+        merger = merger.push(image)?;
+    }
+    Ok(merger.finish(alloc))
+}
+
+#[test]
+fn images_in_turn(rt: HostRuntime) -> Result<(), Fail> {
+    let alloc = rt.alloc();
+    for (place, (parts, wanted)) in IN_TURN.iter().enumerate() {
+        let mut images = Vec::new(alloc);
+        for (kind, number, base, place, given) in *parts {
+            let made = Image::new(*kind, *number, *base, *place, entries(alloc, given)?);
+            images.push(made.ok_or("not lawful")?)?;
+        }
+        match (merged_in_turn(alloc, images)?, wanted) {
+            (Ok(image), Ok((number, at, given))) => {
+                assert!(rt; is_full(&image, *number, *at, given), "row {place}")
+            }
+            (Err(refusal), Err(wanted)) => assert_eq!(rt; refusal, *wanted, "row {place}"),
+            _ => panic!(rt; "row {place}"),
+        }
+    }
     Ok(())
 }
 

@@ -3,6 +3,7 @@ pub mod log
 pub mod machine
 pub mod phases
 pub mod reclaim
+pub mod renewal
 pub mod scans
 pub mod sessions
 pub mod store

@@ -6,6 +6,7 @@ pub mod Openings
 pub mod Promises
 pub mod Reclaiming
 pub mod Refusals
+pub mod Renewals
 pub mod Schedules
 pub mod Statuses
 pub mod Streaming

@@ -7,3 +7,4 @@ pub mod CheckpointFields
 pub mod Instructions
 pub mod RecordEdits
 pub mod Endings
+pub mod LiveEntries

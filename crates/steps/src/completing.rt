@@ -32,7 +32,7 @@ fn base_of(kind: Kind, number: u64, finished: u64) -> u64
 }
 
 /// The image of what was captured, each key once.
-fn image_of<A: Allocator>(
+pub(crate) fn image_of<A: Allocator>(
     kind: Kind,
     number: u64,
     finished: u64,

@@ -421,3 +421,44 @@ impl fmt::Display for AbandonError {
 }
 
 impl Error for AbandonError {}
+
+/// Why a core isn't renewed. The first that holds, in this order, is answered.
+#[derive(Clone, Copy, Debug, PartialEq, Eq)]
+pub enum RenewError {
+    /// A checkpoint runs.
+    NotAtRest,
+    /// A session has an open call.
+    SessionBusy,
+    /// The image of the last checkpoint, or its header, was not taken.
+    NotTaken,
+    NoMemory,
+}
+
+impl RenewError {
+    ghost use Rattle.std.specs.Prelude.{◌≡◌};
+    ghost use Rattle.steps.specs.Renewals.{renew_error_text};
+
+    /// The name of the refusal, as it is printed.
+    pub fn name(self) -> &'static str
+        ensures { result.now ≡ renew_error_text self }
+    {
+        match self {
+            RenewError::NotAtRest => "not at rest",
+            RenewError::SessionBusy => "session busy",
+            RenewError::NotTaken => "not taken",
+            RenewError::NoMemory => "no memory",
+        }
+    }
+}
+
+impl fmt::Display for RenewError {
+    ghost use Rattle.steps.specs.Renewals.{renew_error_text};
+
+    ghost output = { λ e. Some (renew_error_text e) };
+
+    fn fmt<W: fmt::Write>(&self, f: &mut fmt::Formatter<W>) -> fmt::Result {
+        f.write_str(self.name())
+    }
+}
+
+impl Error for RenewError {}

@@ -1,6 +1,7 @@
 //! What holds of every schedule, as the contracts of functions that do nothing.
 
 ghost use Rattle.steps.specs.Promises.{AllSchedules};
+ghost use Rattle.steps.specs.Renewals.{RenewalsJoin};
 ghost use Rattle.steps.specs.Streaming.{HeadersFix};
 ghost use Rattle.steps.specs.Visits.{ScansInTurns, ScansWhole};
 
@@ -28,4 +29,11 @@ pub fn turns_law<A: Allocator>()
 /// lists of entries have one digest.
 pub fn headers_law()
     ensures { HeadersFix }
+{}
+
+/// Over cores of which each is the renewal of the one before (`Core::renew`), the logs one after another
+/// are one history from the first opening on, with the replies that their calls give, and lead to the
+/// table of the last core.
+pub fn renewals_law()
+    ensures { RenewalsJoin }
 {}

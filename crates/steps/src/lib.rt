@@ -5,10 +5,10 @@
 //! a ring (`Core::start_streamed`, `Core::capture_to`), and it gives their header (`Core::take_header`).
 //!
 //! What a reader must believe stands at the top of `specs/`: what contracts see of a core (`CoreViews`)
-//! and of a key's record (`Versions`, `Statuses`), when calls are refused (`Refusals`), what events do
-//! and how they are answered (`Schedules`, `Drives`), and what is promised of every schedule
-//! (`Promises`). The machine of which each state of a core is one is in `specs/machine/`, and how its
-//! fields stand for that in `specs/inside/`.
+//! and of a key's record (`Versions`, `Statuses`), when calls are refused (`Refusals`), what a renewal
+//! leaves (`Renewals`), what events do and how they are answered (`Schedules`, `Drives`), and what is
+//! promised of every schedule (`Promises`). The machine of which each state of a core is one is in
+//! `specs/machine/`, and how its fields stand for that in `specs/inside/`.
 #![tactic(auto)]
 
 mod begin;
@@ -30,6 +30,7 @@ mod locking;
 mod notes;
 mod open;
 mod reclaiming;
+pub mod renewals;
 pub mod schedules;
 pub mod step;
 pub mod streaming;
@@ -41,9 +42,10 @@ pub use cores::Core;
 pub use drives::{Run, drive};
 pub use errors::{
     AbandonError, AdvanceError, BeginError, CaptureError, CaptureToError, FinishError, NotActive,
-    OpenError, StartError, StepError,
+    OpenError, RenewError, StartError, StepError,
 };
 pub use finish::Answer;
+pub use renewals::Renewed;
 pub use schedules::{Event, Handled, Reply};
 pub use step::Stepped;
 pub use versions::Versions;

@@ -57,7 +57,7 @@ fn none_for_each<T, A: Allocator>(alloc: A) -> Result<Vec<Option<T>, A>, NoMemor
 
 /// What a core has at its start beside its catalog and its opening.
 #[derive(Drop)]
-struct Parts<A: Allocator> {
+pub(crate) struct Parts<A: Allocator> {
     store: Store<A>,
     locks: LockTable<A>,
     calls: Calls<A>,
@@ -95,7 +95,10 @@ fn free_sessions<A: Allocator + Copy>(alloc: A) -> Result<(Calls<A>, Numbers<A>)
 }
 
 /// A store of these entries, no lock, and no call of any session.
-fn parts_of<A: Allocator + Copy>(alloc: A, entries: &[Entry<A>]) -> Result<Parts<A>, NoMemory>
+pub(crate) fn parts_of<A: Allocator + Copy>(
+    alloc: A,
+    entries: &[Entry<A>],
+) -> Result<Parts<A>, NoMemory>
     requires { Rises entries.now }
     ensures slots { IfOk result (λ p. length p.store ≡ length entries.now) }
     ensures store { IfOk result (λ p. (q : Bytes) → versions_in p.store q ≡ opened_with (versions_in []) entries.now q) }
@@ -117,7 +120,7 @@ fn parts_of<A: Allocator + Copy>(alloc: A, entries: &[Entry<A>]) -> Result<Parts
 }
 
 /// A core at rest over a lawful opening.
-fn core_of<A: Allocator + Copy>(
+pub(crate) fn core_of<A: Allocator + Copy>(
     alloc: A,
     catalog: Catalog<A>,
     opening: Image<A>,

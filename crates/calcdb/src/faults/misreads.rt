@@ -84,10 +84,10 @@ impl fmt::Display for Misread {
             Misread::NoProcedure(word) => write!(f, "no procedure {word}"),
             Misread::NoKind(word) => write!(f, "no kind of checkpoint {word}"),
             Misread::NoNumber(word, most) => write!(f, "{word} isn't a number from 0 to {most}"),
-            Misread::NoHex(word) => { write!(f, "{word} isn't hexadecimal, of two digits a byte") },
+            Misread::NoHex(word) => write!(f, "{word} isn't hexadecimal, of two digits a byte"),
             Misread::NoValue(word) => {
                 write!(f, "{word} isn't a value, which begins with #, ' or x")
-            },
+            }
             Misread::LongValue(word, most) => write!(f, "{word} has over {most} bytes"),
             Misread::NoKey(word) => write!(f, "{word} isn't a key of 1 to {KEY_BYTES} bytes"),
             Misread::NoInstruction(word) => write!(f, "no instruction {word}"),

@@ -31,21 +31,21 @@ impl fmt::Display for Subject<'_> {
     }
 }
 
-/// The files of images, by their names and with their bytes, in order.
+/// The files of images, by their names in order.
 #[derive(Clone, Copy)]
-pub(crate) struct ImageFiles<'a, 'b, A: Allocator> {
+pub(crate) struct ImageFiles<'a, 'b> {
     pub names: &'b [&'a str],
-    pub bytes: &'b [Vec<u8, A>],
 }
 
-impl<'a, A: Allocator + Copy> ImageFiles<'a, '_, A> {
-    fn file(&self, place: usize) -> Subject<'a> {
-        match self.names.get(place) {
-            Some(name) => Subject::File(name),
-            None => Subject::Unknown,
-        }
+/// A file of this name, if it is known.
+fn named<'a>(name: Option<&&'a str>) -> Subject<'a> {
+    match name {
+        Some(name) => Subject::File(name),
+        None => Subject::Unknown,
     }
+}
 
+impl<'a> ImageFiles<'a, '_> {
     /// The image at a place, and the one after it.
     fn neighbours(&self, place: usize) -> Subject<'a> {
         match (
@@ -65,41 +65,43 @@ impl<'a, A: Allocator + Copy> ImageFiles<'a, '_, A> {
         }
     }
 
-    /// The first file that holds no image, which is looked for once more.
-    fn unread(&self, alloc: A) -> Subject<'a> {
-        for (place, bytes) in self.bytes.iter().enumerate() {
+    /// The first file that holds no image, which is looked for once more in the bytes of all.
+    fn unread<A: Allocator + Copy>(&self, alloc: A, files: &[Vec<u8, A>]) -> Option<&&'a str> {
+        for (name, bytes) in self.names.iter().zip(files) {
             match read_image(alloc, bytes.as_slice()) {
                 Ok(_) => {}
-                Err(ReadError::NoMemory) => return Subject::Unknown,
-                Err(_) => return self.file(place),
+                Err(ReadError::NoMemory) => return None,
+                Err(_) => return Some(name),
             }
         }
-        Subject::Unknown
+        None
     }
 
-    /// What a merge's fault is of.
-    pub(crate) fn subject(&self, alloc: A, fault: &Fault) -> Subject<'a> {
+    /// What a merge's fault is of, where this is the first file that holds no image.
+    pub(crate) fn subject(&self, fault: &Fault, unread: Option<&&'a str>) -> Subject<'a> {
         let Fault::Refused(reason) = fault else {
             return Subject::Unknown;
         };
         match reason {
             Reason::NotAnImage | Reason::BadDigest | Reason::BadBlock(_) | Reason::BadForm => {
-                self.unread(alloc)
+                named(unread)
             }
             Reason::TooMany => Subject::Chain,
-            Reason::NotFull => self.file(0),
-            Reason::NotPartial(place) => self.file(place.saturating_add(1)),
+            Reason::NotFull => named(self.names.first()),
+            Reason::NotPartial(place) => named(self.names.get(place.saturating_add(1))),
             Reason::Gap(place) => self.neighbours(*place),
             _ => Subject::Unknown,
         }
     }
 
-    /// What a recovery's fault is of, with these names of its script and of its log.
-    pub(crate) fn recovered(
+    /// What a recovery's fault is of, with these names of its script and of its log, and with what the
+    /// files of images have.
+    pub(crate) fn recovered<A: Allocator + Copy>(
         &self,
         alloc: A,
         fault: &Fault,
         (script, log): (&'a str, &'a str),
+        files: &[Vec<u8, A>],
     ) -> Subject<'a> {
         let Fault::Refused(reason) = fault else {
             return Subject::Unknown;
@@ -109,7 +111,10 @@ impl<'a, A: Allocator + Copy> ImageFiles<'a, '_, A> {
             Reason::WrongCatalog => Subject::Files(script, log),
             Reason::WrongOpening => self.beside(self.names.first(), log),
             Reason::PlaceOutside => self.beside(self.names.last(), log),
-            _ => self.subject(alloc, fault),
+            Reason::NotAnImage | Reason::BadDigest | Reason::BadBlock(_) | Reason::BadForm => {
+                named(self.unread(alloc, files))
+            }
+            _ => self.subject(fault, None),
         }
     }
 }

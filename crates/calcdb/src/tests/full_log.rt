@@ -1,13 +1,14 @@
-//! A log that is full, and the core that goes on with its table.
+//! A log that is full, and the core that is renewed then: it goes on with the table that would be recovered.
 
+use crate::output::push_image;
 use crate::tests::core_calls::key_and_value;
-use crate::tests::fixtures::{catalog_of, log_of_core, opened, opening_of};
+use crate::tests::fixtures::{log_of_core, opened, opening_of};
 use image::{Image, Kind};
 use procedure::{Key, Value};
 use replay::recover;
 use std::alloc::Global;
 use std::test::Fail;
-use steps::{Core, FinishError, StartError};
+use steps::{Core, FinishError, Renewed, StartError};
 
 /// The number of the procedure `set`.
 const SET: u16 = 4;
@@ -71,13 +72,36 @@ fn refused(core: &mut Core<Global>, alloc: Global) -> (Option<FinishError>, Opti
     (finish, core.start(Kind::Full).err())
 }
 
-/// A core over the table that is recovered from a core's log.
-fn next_of(alloc: Global, core: &Core<Global>) -> Result<Core<Global>, Fail> {
+/// The opening image of the table that is recovered from a core's log, as it is printed.
+fn recovered(alloc: Global, core: &Core<Global>) -> Result<Vec<u8>, Fail> {
     let log = log_of_core(alloc, core)?;
     let images = [opening_of(alloc, OPENING)?];
     let found = recover(alloc, core.catalog(), &images, log.as_slice())?;
-    let opening = Image::opening(alloc, found.state)?;
-    Ok(Core::open(alloc, catalog_of(alloc)?, opening)?)
+    text_of(alloc, &Image::opening(alloc, found.state)?)
+}
+
+/// An image, as it is printed.
+fn text_of(alloc: Global, image: &Image<Global>) -> Result<Vec<u8>, Fail> {
+    let mut text = Vec::new(alloc);
+    push_image(&mut text, image)?;
+    Ok(text)
+}
+
+/// The core that goes on, and how many records the log has that is handed over beside it.
+fn next_of(core: Core<Global>) -> Option<(Core<Global>, usize)> {
+    match core.renew() {
+        Ok(renewed) => {
+            let Renewed { log, core, .. } = renewed;
+            Some((core, log.len()))
+        }
+        Err(_) => None,
+    }
+}
+
+/// Whether a core was opened with the image that is printed so.
+fn opens_with(alloc: Global, core: &Core<Global>, wanted: &[u8]) -> Result<bool, Fail> {
+    let text = text_of(alloc, core.opening())?;
+    Ok(text.as_slice() == wanted)
 }
 
 /// The place of the next core's first call, which has the number of an earlier one, and whether its opening
@@ -97,8 +121,10 @@ fn full_log(rt: HostRuntime) -> Result<(), Fail> {
     assert_eq!(rt; last_calls(&mut core, rt.alloc()), (CALLS, 1_000_000));
     let wanted = (Some(FinishError::LogFull), Some(StartError::LogFull));
     assert_eq!(rt; refused(&mut core, rt.alloc()), wanted);
-    let mut next = next_of(rt.alloc(), &core)?;
-    drop(core);
+    let wanted = recovered(rt.alloc(), &core)?;
+    let (mut next, records) = next_of(core).ok_or("not renewed")?;
+    assert_eq!(rt; records, 1_000_000);
+    assert!(rt; opens_with(rt.alloc(), &next, wanted.as_slice())?);
     assert_eq!(rt; goes_on(&mut next, rt.alloc()), Some((0, true)));
     Ok(())
 }

@@ -53,7 +53,8 @@ fn image_of(alloc: Global, text: &str) -> Result<Image<Global>, Fail> {
     Ok(Image::new(kind, number, base, place, entries).ok_or("not lawful")?)
 }
 
-fn sealed(alloc: Global, text: &str) -> Result<Vec<u8>, Fail> {
+/// The bytes of the image of a text, in version 2.
+pub(crate) fn sealed(alloc: Global, text: &str) -> Result<Vec<u8>, Fail> {
     Ok(seal(alloc, &image_of(alloc, text)?)?)
 }
 

@@ -1,7 +1,8 @@
 //! Rows of `merge` and of `show`, of files that can't be read or written, and of words that ask for nothing.
 
+use crate::merge_files::merge_files;
 use crate::tests::console::check_rows;
-use crate::tests::made_files::make_file;
+use crate::tests::made_files::{make_file, sealed};
 use std::fs;
 use std::process::Abort;
 use std::test::Fail;
@@ -89,6 +90,21 @@ unwritten calcdb --help = - / unwritten calcdb --version = - / calcdb --version 
 #[test]
 fn merges(rt: HostRuntime) -> Result<(), Fail> {
     assert_eq!(rt; check_rows(&rt, MERGES)?, 4);
+    Ok(())
+}
+
+#[test]
+fn merges_in_memory(rt: HostRuntime) -> Result<(), Fail> {
+    let alloc = rt.alloc();
+    let full = sealed(alloc, "full 1 base 1 place 1: a=1 b=2")?;
+    let partial = sealed(alloc, "partial 2 base 1 place 5: a=gone c=7")?;
+    let files = vec![in alloc; full, partial]?;
+    let mut out = Vec::new(alloc);
+    assert!(rt; merge_files(alloc, files.as_slice(), &mut out).is_ok());
+    assert_eq!(rt;
+        out.as_slice(),
+        b"image full 2 base 2 place 5 count 2\n".as_slice()
+    );
     Ok(())
 }
 

@@ -21,7 +21,7 @@ use steps::{Core, OpenError};
 const TAKE_NONE: [&str; 3] = ["giveup", "image", "reclaim"];
 
 /// What a core shows: its phase, its slots, and the bytes of its log.
-fn shown<A: Allocator + Copy>(
+pub(crate) fn shown<A: Allocator + Copy>(
     global: Global,
     alloc: A,
     core: &Core<A>,

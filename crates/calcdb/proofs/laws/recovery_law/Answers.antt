@@ -1,13 +1,9 @@
-use Rattle.std.proofs.Common.{◌∷◌, List, subst}
+use Rattle.std.proofs.Common.{◌∷◌, subst}
 use Rattle.image.specs.Images.{IsLawfulImage}
 use Rattle.image.specs.Merges.{table_of}
-use Rattle.steps.specs.CoreViews.{CoreView}
-use Rattle.steps.specs.Schedules.{HandlesAll, images_in}
-use Rattle.steps.specs.declared.schedules.Event.{Event}
-use Rattle.steps.specs.declared.schedules.Handled.{Handled}
+use Rattle.steps.specs.Schedules.{images_in}
 use Rattle.steps.proofs.log.DrivenLog.{images_taken}
-use Rattle.calcdb.specs.OwnFiles.{AreItsImages}
-use Rattle.calcdb.proofs.CoreFiles.{are_recovered, taken_are_images}
+use Rattle.calcdb.proofs.CoreFiles.{are_recovered, gives_table_now, taken_are_images}
 use Rattle.calcdb.proofs.laws.recovery_law.Goals as goal
 
 pub returns-clause-history : goal.returns-clause-history
@@ -33,3 +29,8 @@ pub returns-clause-recovered : goal.returns-clause-recovered
 returns-clause-recovered g c = λ first events each handled.
     let core = c.args.core.now in
     are_recovered core (core.opening ∷ images_in each) c.fronts_law.ensures (returns-clause-history g c) (returns-clause-images g c first events each handled)
+
+pub returns-clause-whole : goal.returns-clause-whole
+returns-clause-whole g c = λ first events each handled.
+    let core = c.args.core.now in
+    gives_table_now core (core.opening ∷ images_in each) c.written_log_law.ensures c.records-records.ensures.most (returns-clause-history g c) (returns-clause-images g c first events each handled)

@@ -1,29 +1,32 @@
-use Rattle.std.proofs.Common.{◌≡◌, map, inl, refl}
+use Rattle.std.proofs.Common.{List, map, ap, subst, ◌∙◌, ◌∷◌, ◌++◌, [], take}
+use Rattle.std.proofs.lemmas.List.{take_all}
 use Rattle.procedure.specs.Bytes.{Bytes}
-use Rattle.calcdb.specs.Merging.{IsMergeFault, IsMergeHeader}
-use Rattle.calcdb.specs.Output.{header_line}
-use Rattle.calcdb.specs.Refusing.{no_memory}
-use Rattle.calcdb.specs.declared.faults.Fault.TheVariants as fault
-use Rattle.calcdb.proofs.Declined.{declined, fails_wider, suits_declined, suits_header}
+use Rattle.calcdb.specs.Merging.{HasTaken}
+use Rattle.calcdb.proofs.Merges.{front_more}
 use Rattle.calcdb.proofs.merge_files.merge_files.Goals as goal
 
-pub returns-in-Err-clause-fault : goal.returns-in-Err-clause-fault
-returns-in-Err-clause-fault g c =
-    let files = map (λ f. f.items) c.args.images.now in
-    declined (IsMergeFault files) (IsMergeHeader files) (g.W.Write.contents c.args.writer.now) (g.W.Write.contents c.refuse.new.writer) (fault.Refused c.in-Err.reason) c.refuse.result
-    tt c.in-Err.ensures.err (inl refl) c.refuse.ensures
+pub loop-image-preserved : goal.loop-image-preserved
+loop-image-preserved g c =
+    let l = c.loop-image in
+    let front : List Bytes = map (λ f. f.items) (take l.image-index c.args.images.now) in
+    subst (λ (files : List Bytes). HasTaken files c.with_file-kept.result)
+    (ap (λ b. front ++ b ∷ []) c.as_slice.ensures.value ∙ front_more (λ f. f.items) c.args.images.now l.image-index c.image-item.result c.loop-image-test.true c.image-item.is)
+    (c.with_file-kept.ensures front l.invariant)
 
-pub returns-in-Err-clause-only_fault : goal.returns-in-Err-clause-only_fault
-returns-in-Err-clause-only_fault g c = λ says h.
-    suits_declined c.refuse.result (g.W.Write.contents c.args.writer.now) (g.W.Write.contents c.refuse.new.writer) c.in-Err.reason says (c.in-Err.ensures.only says h) c.refuse.ensures
+pub returns-clause-fault : goal.returns-clause-fault
+returns-clause-fault g c =
+    let l = c.loop-image in
+    c.end_merge.ensures.fault (map (λ f. f.items) c.args.images.now)
+    (subst (λ files. HasTaken files l.kept) (ap (map (λ f. f.items)) (take_all l.image-index c.args.images.now c.loop-image-test.false)) l.invariant)
 
-pub returns-in-Err-write_header-clause-only_fault : goal.returns-in-Err-write_header-clause-only_fault
-returns-in-Err-write_header-clause-only_fault g c = λ says h.
-    suits_header c.in-Err-write_header.fault (header_line c.in-Ok.image) (g.W.Write.contents c.args.writer.now) (g.W.Write.contents c.write_header.new.writer) says c.in-Err-write_header.ensures.err
+pub returns-clause-only_image : goal.returns-clause-only_image
+returns-clause-only_image g c = λ says.
+    let l = c.loop-image in
+    c.end_merge.ensures.only_image (map (λ f. f.items) c.args.images.now) says
+    (subst (λ files. HasTaken files l.kept) (ap (map (λ f. f.items)) (take_all l.image-index c.args.images.now c.loop-image-test.false)) l.invariant)
 
-pub returns-in-Err-write_header-clause-fault : goal.returns-in-Err-write_header-clause-fault
-returns-in-Err-write_header-clause-fault g c =
-    let files = map (λ f. f.items) c.args.images.now in
-    let image = c.in-Ok.image in
-    fails_wider (λ f. f ≡ no_memory) (IsMergeFault files) (λ (text : Bytes). text ≡ header_line image) (IsMergeHeader files) (λ f is. rw is (inl refl)) (λ text is. (image, c.in-Ok.ensures.ok, is))
-    (g.W.Write.contents c.args.writer.now) (g.W.Write.contents c.write_header.new.writer) c.in-Err-write_header.fault c.in-Err-write_header.ensures.err
+pub returns-clause-only_fault : goal.returns-clause-only_fault
+returns-clause-only_fault g c = λ says.
+    let l = c.loop-image in
+    c.end_merge.ensures.only_fault (map (λ f. f.items) c.args.images.now) says
+    (subst (λ files. HasTaken files l.kept) (ap (map (λ f. f.items)) (take_all l.image-index c.args.images.now c.loop-image-test.false)) l.invariant)

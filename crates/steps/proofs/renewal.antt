@@ -1,0 +1,5 @@
+-- A core that is renewed.
+pub mod LiveEntries
+pub mod NextOpening
+pub mod RenewalRefusals
+pub mod JoinedLogs

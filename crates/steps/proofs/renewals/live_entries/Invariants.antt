@@ -1,0 +1,5 @@
+use Rattle.steps.proofs.renewal.LiveEntries.{Gathered}
+use Rattle.steps.proofs.renewals.live_entries.Given as goal
+
+abbrev pub invariant-loop-slot : goal.invariant-loop-slot
+invariant-loop-slot g l = record { gathered : Gathered l.store l.slot l.entries.items }
