@@ -17,7 +17,7 @@ use std::alloc::Allocator;
 use std::marker::Model;
 
 /// The arguments of a call, of any length, seen by contracts as the list of them.
-#[derive(Debug, Drop)]
+#[derive(Drop)]
 pub(crate) struct Arguments<A: Allocator> {
     values: Vec<Vec<u8, A>, A>,
 }
@@ -45,7 +45,7 @@ impl<A: Allocator> Arguments<A> {
 }
 
 /// The call that a command begins.
-#[derive(Debug, Drop)]
+#[derive(Drop)]
 pub(crate) struct NewCall<V> {
     pub session: u16,
     pub number: u64,
@@ -55,7 +55,7 @@ pub(crate) struct NewCall<V> {
 
 /// A command. Its arguments are `Arguments<A>` in the program, and lists of byte strings in the
 /// definitions of `specs/`.
-#[derive(Debug, Drop)]
+#[derive(Drop)]
 pub(crate) enum Command<V> {
     /// The call begins.
     Begin(NewCall<V>),
@@ -84,7 +84,7 @@ pub(crate) enum Command<V> {
 }
 
 /// The first word of a command.
-#[derive(Clone, Copy, Debug, PartialEq, Eq)]
+#[derive(Clone, Copy)]
 pub(crate) enum CommandName {
     Begin,
     Step,

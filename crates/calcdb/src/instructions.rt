@@ -16,7 +16,7 @@ use procedure::{Instr, Operand, Test, Value};
 use std::alloc::Allocator;
 
 /// The first word of an instruction.
-#[derive(Clone, Copy, PartialEq, Eq)]
+#[derive(Clone, Copy)]
 pub(crate) enum Verb {
     Read,
     Put,
@@ -28,7 +28,7 @@ pub(crate) enum Verb {
 }
 
 /// The word of a test.
-#[derive(Clone, Copy, PartialEq, Eq)]
+#[derive(Clone, Copy)]
 pub(crate) enum TestName {
     Absent,
     Equal,

@@ -21,7 +21,7 @@ pub(crate) struct Reader<J: Naming, A: Allocator> {
 
 /// What was found of a key. Its value is a `Value<A>` in the program, and a byte string in the definitions
 /// of `specs/`.
-#[derive(Debug, Drop)]
+#[derive(Drop)]
 pub(crate) enum Found<V> {
     /// The number of the last image that was seen, and what the key holds.
     Held(u64, Option<V>),

@@ -8,7 +8,7 @@ use std::rt::Files;
 use std::{fmt, fs};
 
 /// Images of another run in a folder. They print as what is said of them.
-#[derive(Clone, Copy, Debug)]
+#[derive(Clone, Copy)]
 pub(crate) struct OtherImages<'a> {
     folder: &'a str,
     /// The least of their numbers.

@@ -11,7 +11,7 @@ use workers::{Gate, Point};
 const PAUSE: u64 = 100;
 
 /// How far work is.
-#[derive(Clone, Copy, Debug, PartialEq, Eq)]
+#[derive(Clone, Copy)]
 pub(crate) enum Reached {
     /// So many bytes of a text were read.
     Bytes(u64),

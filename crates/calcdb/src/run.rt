@@ -79,7 +79,7 @@ fn run_call<A: Allocator + Clone>(core: &mut Core<A>, call: NewCall<Arguments<A>
 }
 
 /// What is printed of a command.
-#[derive(Debug, Drop)]
+#[derive(Drop)]
 pub(crate) enum Shown<A: Allocator> {
     /// The reply of its event, or of the one that ended it.
     Reply(Reply<A>),

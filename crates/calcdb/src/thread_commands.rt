@@ -22,7 +22,7 @@ const LAST_SESSION: u16 = SESSIONS - 1;
 
 /// A command of a script that is run in threads. Its arguments are `Sequence<Value<A>, A>` in the program, and
 /// lists of byte strings in the definitions of `specs/`.
-#[derive(Debug, Drop)]
+#[derive(Drop)]
 pub(crate) enum ThreadCommand<V> {
     /// The session makes a call.
     Call(NewCall<V>),
@@ -33,7 +33,7 @@ pub(crate) enum ThreadCommand<V> {
 }
 
 /// The first word of a command.
-#[derive(Clone, Copy, Debug, PartialEq, Eq)]
+#[derive(Clone, Copy)]
 enum ThreadCommandName {
     Call,
     Checkpoint,

@@ -18,7 +18,7 @@ use std::fmt;
 use std::io::{self, Write};
 
 /// A file in the folder of a run.
-#[derive(Clone, Copy, Debug, PartialEq, Eq)]
+#[derive(Clone, Copy, PartialEq, Eq)]
 pub(crate) enum RunFile {
     /// The image with this number, that of the opening being 0.
     Image(u64),
@@ -40,7 +40,7 @@ impl fmt::Display for RunFile {
 }
 
 /// A file that the program makes. It prints as its path.
-#[derive(Clone, Copy, Debug, PartialEq, Eq)]
+#[derive(Clone, Copy)]
 pub(crate) enum OutFile<'a> {
     Named(&'a str),
     InFolder(&'a str, RunFile),
@@ -54,16 +54,16 @@ impl fmt::Display for OutFile<'_> {
     fn fmt<W: fmt::Write>(&self, f: &mut fmt::Formatter<W>) -> fmt::Result {
         match self {
             OutFile::Named(name) => write!(f, "{name}"),
-            OutFile::InFolder(folder, file) => {
-                let folder = folder.strip_suffix('/').unwrap_or(folder);
-                write!(f, "{folder}/{file}")
+            OutFile::InFolder(folder, file) if folder.as_bytes().ends_with(b"/") => {
+                write!(f, "{folder}{file}")
             }
+            OutFile::InFolder(folder, file) => write!(f, "{folder}/{file}"),
         }
     }
 }
 
 /// Why the program's work isn't done.
-#[derive(Debug, Drop)]
+#[derive(Drop)]
 pub(crate) enum Failure<'a> {
     /// The command line is faulty.
     Usage,

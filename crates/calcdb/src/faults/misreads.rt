@@ -10,7 +10,7 @@ use std::marker::Model;
 const QUOTED: usize = 24;
 
 /// The front of a word, to quote it.
-#[derive(Clone, Copy, Debug)]
+#[derive(Clone, Copy)]
 pub(crate) struct Quote {
     bytes: [u8; QUOTED],
     length: u8,
@@ -44,7 +44,7 @@ impl fmt::Display for Quote {
 }
 
 /// Why a line, or a word of it, isn't read.
-#[derive(Clone, Copy, Debug)]
+#[derive(Clone, Copy)]
 pub(crate) enum Misread {
     Byte,
     MissingWord,
@@ -107,7 +107,7 @@ impl fmt::Display for Misread {
 }
 
 /// The first faulty line of a text, and why it is faulty. Contracts see its number alone, counted from 1.
-#[derive(Debug, Drop)]
+#[derive(Drop)]
 pub(crate) struct FaultyLine {
     pub number: u64,
     pub why: Misread,
@@ -119,4 +119,10 @@ impl Model for FaultyLine {
     ghost Value = { ℕ };
 
     ghost view = { λ l. l.number };
+}
+
+impl fmt::Debug for FaultyLine {
+    fn fmt<W: fmt::Write>(&self, f: &mut fmt::Formatter<W>) -> fmt::Result {
+        write!(f, "FaultyLine({}: {})", self.number, self.why)
+    }
 }

@@ -6,7 +6,7 @@ use std::alloc::Allocator;
 use std::fmt;
 
 /// What is refused. It prints as what stands before the reason.
-#[derive(Clone, Copy, Debug)]
+#[derive(Clone, Copy)]
 pub(crate) enum Subject<'a> {
     /// It isn't known.
     Unknown,

@@ -8,7 +8,7 @@ use procedure::NoMemory;
 use std::alloc::{AllocError, AllocFailed};
 
 /// Why a line, or a part of it, isn't read.
-#[derive(Clone, Copy, Debug)]
+#[derive(Clone, Copy)]
 pub(crate) enum Unread {
     /// It isn't in the language.
     Faulty(Misread),

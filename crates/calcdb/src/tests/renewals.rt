@@ -110,6 +110,17 @@ fn goes_on<A: Allocator + Copy>(
     Ok((text, holds))
 }
 
+/// A refusal, as it is printed.
+fn refusal_text(global: Global, refused: RenewError) -> Result<Vec<u8, Global>, Fail> {
+    let mut text = Vec::new(global);
+    push_refusal(&mut text, refused.name().as_bytes())?;
+    Ok(text)
+}
+
+fn is_renewed<A: Allocator + Copy>(core: Core<A>) -> bool {
+    core.renew().is_ok()
+}
+
 /// The refusal, as it is printed; and whether the core that was handed back shows what it showed before, and
 /// is renewed where it was refused for memory alone.
 fn stays<A: Allocator + Copy>(
@@ -119,12 +130,10 @@ fn stays<A: Allocator + Copy>(
     core: Core<A>,
     refused: RenewError,
 ) -> Result<(Vec<u8, Global>, bool), Fail> {
-    let behind = shown(global, alloc, &core)?;
-    let again = core.renew().is_ok();
-    let holds = behind.as_str() == before && again == (refused == RenewError::NoMemory);
-    let mut text = Vec::new(global);
-    push_refusal(&mut text, refused.name().as_bytes())?;
-    Ok((text, holds))
+    let is_same = shown(global, alloc, &core)?.as_str() == before;
+    let again = is_renewed(core);
+    let text = refusal_text(global, refused)?;
+    Ok((text, is_same && again == (refused == RenewError::NoMemory)))
 }
 
 /// What a core shows, and its log as bytes.
@@ -247,25 +256,22 @@ fn streamed(core: &mut Core<Global>) -> Option<()> {
 }
 
 /// The number of the header that waits, and whether the core is renewed once it is taken.
-fn without_header(core: Core<Global>) -> (Option<u64>, bool) {
-    let mut core = core;
+fn without_header(mut core: Core<Global>) -> (Option<u64>, bool) {
     let number = core.take_header().map(|header| header.number);
     (number, core.renew().is_ok())
 }
 
-/// The same of a core that was refused for its header.
-fn after_a_header(core: Core<Global>) -> Option<(Option<u64>, bool)> {
-    let mut core = core;
-    let _ended = streamed(&mut core);
-    match core.renew() {
-        Err((core, RenewError::NotTaken)) => Some(without_header(core)),
-        _ => None,
-    }
+/// How a renewal is refused where a header waits, and the same of the core that was handed back.
+fn after_a_header(mut core: Core<Global>) -> Option<(RenewError, Option<u64>, bool)> {
+    streamed(&mut core)?;
+    let (core, refused) = core.renew().err()?;
+    let (number, is_renewed) = without_header(core);
+    Some((refused, number, is_renewed))
 }
 
 #[test]
 fn header_waits(rt: HostRuntime) -> Result<(), Fail> {
     let found = after_a_header(opened(rt.alloc(), "")?);
-    assert_eq!(rt; found, Some((Some(1), true)));
+    assert_eq!(rt; found, Some((RenewError::NotTaken, Some(1), true)));
     Ok(())
 }

@@ -3,6 +3,7 @@
 ghost use Rattle.std.specs.Prelude.{◌≡◌};
 
 use crate::digesting::Telling;
+use crate::engine::Ran;
 use crate::faults::failures::{Failure, OutFile, RunFile};
 use crate::run_folder::{RunFolder, write_run};
 use crate::tests::fixtures::{check_over, log_of_core};
@@ -123,27 +124,43 @@ fn check_image(
     Ok(())
 }
 
+/// All files of a run stand in the folder.
+fn check_files(rt: &impl Abort, folder: &MemoryFolder, ran: &Ran<Global>) -> Result<(), Fail> {
+    check_image(rt, folder, 0, ran.core.opening())?;
+    for (place, image) in ran.images.iter().enumerate() {
+        check_image(rt, folder, place + 1, image)?;
+    }
+    let log = log_of_core(folder.alloc, &ran.core)?;
+    check_file(rt, folder, 3, RunFile::Log, log.as_slice());
+    Ok(())
+}
+
+/// Whether a run was written to a folder that takes so many files, and how many were made.
+fn made_in<R: Abort>(
+    rt: &R,
+    alloc: Global,
+    ran: &Ran<Global>,
+    room: usize,
+) -> Result<(bool, usize), Fail> {
+    let mut folder = MemoryFolder {
+        alloc,
+        made: Vec::new(alloc),
+        room,
+    };
+    let is_written = write_run(alloc, rt, &mut folder, ran).is_ok();
+    if is_written {
+        check_files(rt, &folder, ran)?;
+    }
+    Ok((is_written, folder.made.len()))
+}
+
 /// Files are made in their order until there is no room for one.
 #[test]
 fn files_in_memory(rt: HostRuntime) -> Result<(), Fail> {
-    let alloc = rt.alloc();
     let ran = check_over(&rt, "run", SCRIPT, "'a #1\n", ANSWERS)?;
-    let log = log_of_core(alloc, &ran.core)?;
     for room in 0..=4 {
-        let mut folder = MemoryFolder {
-            alloc,
-            made: Vec::new(alloc),
-            room,
-        };
-        let written = write_run(alloc, &rt, &mut folder, &ran);
-        assert_eq!(rt; (written.is_ok(), folder.made.len()), (room == 4, room));
-        if room == 4 {
-            check_image(&rt, &folder, 0, ran.core.opening())?;
-            for (place, image) in ran.images.iter().enumerate() {
-                check_image(&rt, &folder, place + 1, image)?;
-            }
-            check_file(&rt, &folder, 3, RunFile::Log, log.as_slice());
-        }
+        let made = made_in(&rt, rt.alloc(), &ran, room)?;
+        assert_eq!(rt; made, (room == 4, room));
     }
     Ok(())
 }
