@@ -19,6 +19,8 @@ pub mod machines;
 pub mod memory;
 pub mod needs;
 pub mod outcomes;
+#[cfg(test)]
+mod refusal_tests;
 pub mod runs;
 pub mod sequences;
 pub mod streams;

@@ -1,14 +1,14 @@
 //! Tests of what no clause says: worked examples, limits, and that each call succeeds.
 use super::*;
-use crate::limits::{INSTRUCTIONS, LITERAL_BYTES, PROCEDURES, VALUE_BYTES};
+use crate::limits::VALUE_BYTES;
 use Given::{Number, Text};
 use std::alloc::Global;
 use std::process::Abort;
 use std::test::Fail;
 
-type Literal = Value<Global>;
+pub(crate) type Literal = Value<Global>;
 
-type Instructions = Vec<Instr<Literal>>;
+pub(crate) type Instructions = Vec<Instr<Literal>>;
 
 /// An argument of a row: a text, or a number of 8 bytes.
 #[derive(Clone, Copy)]
@@ -37,13 +37,13 @@ const GET_DIGEST: [u8; 32] = [
     0x2c, 0xb9, 0xce, 0x82, 0x21, 0x66, 0xfa, 0x22, 0xd1, 0x2e, 0xfc, 0xa3, 0x14, 0x45, 0x7e, 0x91,
 ];
 
-fn value(alloc: Global, bytes: &[u8]) -> Result<Literal, Fail> {
+pub(crate) fn value(alloc: Global, bytes: &[u8]) -> Result<Literal, Fail> {
     let mut copy = Vec::new(alloc);
     copy.extend_from_slice(bytes)?;
     Ok(Value::new(copy).ok_or("too long a value")?)
 }
 
-fn long(alloc: Global, len: usize) -> Result<Vec<u8>, Fail> {
+pub(crate) fn long(alloc: Global, len: usize) -> Result<Vec<u8>, Fail> {
     Ok(vec![in alloc; 7u8; len]?)
 }
 
@@ -52,11 +52,11 @@ fn procedure(arity: u8, code: Instructions) -> Result<Procedure<Global>, Fail> {
     Ok(Procedure { arity, code })
 }
 
-fn arg(index: u8) -> Operand<Literal> {
+pub(crate) fn arg(index: u8) -> Operand<Literal> {
     Operand::Arg(index)
 }
 
-fn reg(index: u8) -> Operand<Literal> {
+pub(crate) fn reg(index: u8) -> Operand<Literal> {
     Operand::Reg(index)
 }
 
@@ -80,20 +80,39 @@ fn transfer(alloc: Global) -> Result<Instructions, Fail> {
     ]?)
 }
 
+pub(crate) fn add(
+    procedures: &mut Vec<Procedure<Global>>,
+    arity: u8,
+    code: Instructions,
+) -> Result<(), Fail> {
+    Ok(procedures.push(procedure(arity, code)?)?)
+}
+
+/// Adds get, new, deposit and move.
+fn add_first(alloc: Global, procedures: &mut Vec<Procedure<Global>>) -> Result<(), Fail> {
+    add(procedures, 1, vec![in alloc; Instr::Read(0, arg(0))]?)?;
+    add(
+        procedures,
+        2,
+        vec![in alloc; Instr::Insert(arg(0), arg(1))]?,
+    )?;
+    add(procedures, 2, deposit(alloc)?)?;
+    add(procedures, 3, transfer(alloc)?)
+}
+
+/// Adds set, delete and swap.
+fn add_others(alloc: Global, procedures: &mut Vec<Procedure<Global>>) -> Result<(), Fail> {
+    add(procedures, 2, vec![in alloc; Instr::Put(arg(0), arg(1))]?)?;
+    add(procedures, 1, vec![in alloc; Instr::Delete(arg(0))]?)?;
+    let swap = vec![in alloc; Instr::Read(0, arg(0)), Instr::Put(arg(0), arg(1))]?;
+    add(procedures, 2, swap)
+}
+
 /// The procedures of the examples: get, new, deposit, move, set, delete, swap.
 pub(crate) fn examples(alloc: Global) -> Result<Catalog<Global>, Fail> {
-    let procedures = vec![in alloc;
-        procedure(1, vec![in alloc; Instr::Read(0, arg(0))]?)?,
-        procedure(2, vec![in alloc; Instr::Insert(arg(0), arg(1))]?)?,
-        procedure(2, deposit(alloc)?)?,
-        procedure(3, transfer(alloc)?)?,
-        procedure(2, vec![in alloc; Instr::Put(arg(0), arg(1))]?)?,
-        procedure(1, vec![in alloc; Instr::Delete(arg(0))]?)?,
-        procedure(
-            2,
-            vec![in alloc; Instr::Read(0, arg(0)), Instr::Put(arg(0), arg(1))]?
-        )?,
-    ]?;
+    let mut procedures = Vec::new(alloc);
+    add_first(alloc, &mut procedures)?;
+    add_others(alloc, &mut procedures)?;
     Ok(Catalog::new(Sequence::new(procedures))?)
 }
 
@@ -111,31 +130,41 @@ pub(crate) fn arguments(
     Ok(Sequence::new(args))
 }
 
+fn add_pair(pairs: &mut Vec<(Key, Literal)>, letter: u8, number: u64) -> Result<(), Fail> {
+    let key = key(&[letter])?;
+    Ok(pairs.push((key, Value::of_number(number)))?)
+}
+
 pub(crate) fn table(alloc: Global, pairs: &[(u8, u64)]) -> Result<Table<Global>, Fail> {
     let mut made = Vec::new(alloc);
-    for (key, number) in pairs {
-        let key = Key::new(&[*key]).ok_or("no key")?;
-        made.push((key, Value::of_number(*number)))?;
+    for (letter, number) in pairs {
+        add_pair(&mut made, *letter, *number)?;
     }
     Ok(Table::from_pairs(alloc, Sequence::new(made))?)
 }
 
-/// The numbers that a table holds, by the first byte of each key.
-pub(crate) fn numbers(
+/// Whether the table holds these numbers, by keys of one letter, and nothing else.
+pub(crate) fn holds(table: &Table<Global>, pairs: &[(u8, u64)]) -> bool {
+    table.len() == pairs.len()
+        && table.iter().zip(pairs).all(|((key, value), (letter, number))| {
+            key.as_bytes() == [*letter].as_slice() && value.as_number() == Some(*number)
+        })
+}
+
+/// The catalog of one procedure.
+pub(crate) fn catalog_of(
     alloc: Global,
-    table: &Table<Global>,
-) -> Result<Vec<(u8, Option<u64>)>, Fail> {
-    let mut found = Vec::new(alloc);
-    for (key, value) in table.iter() {
-        found.push((key.as_bytes()[0], value.as_number()))?;
-    }
-    Ok(found)
+    arity: u8,
+    code: Instructions,
+) -> Result<Result<Catalog<Global>, CatalogError>, Fail> {
+    let one = vec![in alloc; procedure(arity, code)?]?;
+    Ok(Catalog::new(Sequence::new(one)))
 }
 
 /// The catalog of `get` alone.
 fn get_alone(alloc: Global) -> Result<Catalog<Global>, Fail> {
-    let get = procedure(1, vec![in alloc; Instr::Read(0, arg(0))]?)?;
-    Ok(Catalog::new(Sequence::new(vec![in alloc; get]?))?)
+    let get = vec![in alloc; Instr::Read(0, arg(0))]?;
+    Ok(catalog_of(alloc, 1, get)??)
 }
 
 #[test]
@@ -163,67 +192,6 @@ fn bytes_of_deposit(rt: HostRuntime) -> Result<(), Fail> {
 fn digest_of_a_catalog(rt: HostRuntime) -> Result<(), Fail> {
     let digest = get_alone(rt.alloc())?.digest()?;
     assert_eq!(rt; digest.as_slice(), GET_DIGEST.as_slice());
-    Ok(())
-}
-
-fn refused(alloc: Global, arity: u8, code: Instructions) -> Result<Option<CatalogError>, Fail> {
-    let one = vec![in alloc; procedure(arity, code)?]?;
-    Ok(Catalog::new(Sequence::new(one)).err())
-}
-
-#[test]
-fn refused_catalogs(rt: HostRuntime) -> Result<(), Fail> {
-    let alloc = rt.alloc();
-    let mut many = Vec::new(alloc);
-    for _ in 0..PROCEDURES + 1 {
-        many.push(procedure(0, Vec::new(alloc))?)?;
-    }
-    let too_many = Catalog::new(Sequence::new(many)).err();
-    assert_eq!(rt; too_many, Some(CatalogError::TooMany));
-    let mut steps = Vec::new(alloc);
-    for _ in 0..INSTRUCTIONS + 1 {
-        steps.push(Instr::Delete(reg(9)))?;
-    }
-    assert_eq!(rt; refused(alloc, 9, steps)?, Some(CatalogError::TooLong));
-    let literal = Operand::Lit(value(alloc, long(alloc, LITERAL_BYTES + 1)?.as_slice())?);
-    let allowed = Operand::Lit(value(alloc, long(alloc, LITERAL_BYTES)?.as_slice())?);
-    let rows = vec![in alloc;
-        (9, Instr::Delete(arg(8)), Some(CatalogError::BadArgument)),
-        (8, Instr::Delete(arg(8)), Some(CatalogError::BadArgument)),
-        (8, Instr::Delete(arg(7)), None),
-        (0, Instr::Read(8, arg(0)), Some(CatalogError::BadRegister)),
-        (1, Instr::Read(7, arg(0)), None),
-        (
-            0,
-            Instr::Add(7, reg(8), arg(0)),
-            Some(CatalogError::BadRegister)
-        ),
-        (
-            0,
-            Instr::Sub(7, arg(0), reg(8)),
-            Some(CatalogError::BadArgument)
-        ),
-        (
-            0,
-            Instr::Put(reg(0), literal),
-            Some(CatalogError::BadLiteral)
-        ),
-        (0, Instr::Insert(allowed, reg(7)), None),
-        (
-            0,
-            Instr::AbortIf(Test::Absent(reg(7)), 15),
-            Some(CatalogError::BadCode)
-        ),
-        (
-            0,
-            Instr::AbortIf(Test::Equal(arg(0), reg(8)), 15),
-            Some(CatalogError::BadArgument)
-        ),
-        (1, Instr::AbortIf(Test::Below(arg(0), reg(7)), 16), None),
-    ]?;
-    for (arity, instruction, fault) in rows {
-        assert_eq!(rt; refused(alloc, arity, vec![in alloc; instruction]?)?, fault);
-    }
     Ok(())
 }
 
@@ -260,11 +228,11 @@ fn is_value(alloc: Global, len: usize) -> Result<bool, Fail> {
 fn limits_of_keys_and_values(rt: HostRuntime) -> Result<(), Fail> {
     for (len, allowed) in KEY_LENGTHS {
         let is_key = is_key(rt.alloc(), len)?;
-        assert_eq!(rt; is_key, allowed, "{len} bytes");
+        assert_eq!(rt; (len, is_key), (len, allowed));
     }
     for (len, allowed) in VALUE_LENGTHS {
         let is_value = is_value(rt.alloc(), len)?;
-        assert_eq!(rt; is_value, allowed, "{len} bytes");
+        assert_eq!(rt; (len, is_value), (len, allowed));
     }
     Ok(())
 }
@@ -329,22 +297,45 @@ fn first_swap(alloc: Global) -> Result<Machine<Global>, Fail> {
     Ok(Machine::start(alloc, swap, args)?)
 }
 
+/// Whether the next instruction takes a value, and the outcome.
+fn told(machine: &Machine<Global>) -> (bool, Option<u8>) {
+    (machine.gives_value(), machine.ended())
+}
+
+/// What a machine at the start of a swap asks for and tells, where its key holds `held`: whether it reads
+/// `a`, the number that it writes, whether it has committed, and what is told at each of the three.
+fn steps(
+    machine: &mut Machine<Global>,
+    held: &Literal,
+) -> Result<(bool, Option<u64>, bool, [(bool, Option<u8>); 3]), Fail> {
+    let reads = reads(machine, b"a")?;
+    let first = told(machine);
+    machine.fed(Some(held))?;
+    let written = writes(machine, held)?;
+    let second = told(machine);
+    machine.fed(Some(held))?;
+    let committed = has_ended(machine, 0)?;
+    Ok((reads, written, committed, [first, second, told(machine)]))
+}
+
+/// How many replies there are, and how many arguments and replies are left of it.
+fn lengths(machine: Machine<Global>) -> (usize, usize, usize) {
+    let replied = machine.replies().len();
+    let (args, replies) = machine.into_parts();
+    (replied, args.len(), replies.len())
+}
+
 /// A machine sees what it is fed, and nothing else.
 #[test]
 fn machine_by_steps(rt: HostRuntime) -> Result<(), Fail> {
     let held = value(rt.alloc(), b"held")?;
     let mut machine = first_swap(rt.alloc())?;
-    assert!(rt; reads(&machine, b"a")?);
-    assert_eq!(rt; (machine.gives_value(), machine.ended()), (false, None));
-    machine.fed(Some(&held))?;
-    assert_eq!(rt; writes(&machine, &held)?, Some(2));
-    assert_eq!(rt; (machine.gives_value(), machine.ended()), (true, None));
-    machine.fed(Some(&held))?;
-    assert!(rt; has_ended(&machine, 0)?);
-    assert_eq!(rt; (machine.gives_value(), machine.ended()), (false, Some(0)));
-    assert_eq!(rt; machine.replies().len(), 1);
-    let (args, replies) = machine.into_parts();
-    assert_eq!(rt; (args.len(), replies.len()), (2, 1));
+    let found = steps(&mut machine, &held)?;
+    let lengths = lengths(machine);
+    drop(held);
+    let told = [(false, None), (true, None), (false, Some(0))];
+    assert_eq!(rt; found, (true, Some(2), true, told));
+    assert_eq!(rt; lengths, (1, 2, 1));
     Ok(())
 }
 
@@ -360,29 +351,41 @@ fn two_keys(alloc: Global) -> Result<Table<Global>, Fail> {
     table(alloc, &[(b'b', 2), (b'a', 5)])
 }
 
-/// What `delete` of the key `b` changes, run on a table that it only reads.
-fn deletion(alloc: Global, table: &Table<Global>) -> Result<Changes<Global>, Fail> {
+/// The key `b`, as an argument.
+fn second_key(alloc: Global) -> Result<Sequence<Literal, Global>, Fail> {
+    arguments(alloc, &[Text(b"b")])
+}
+
+/// What a call of a procedure on a table that it only reads changes.
+fn changes_of(
+    alloc: Global,
+    procedure: &Procedure<Global>,
+    table: &Table<Global>,
+) -> Result<Changes<Global>, Fail> {
+    Ok(run_alone(alloc, procedure, second_key(alloc)?, table)?.changes)
+}
+
+/// How many keys a deletion changes, and how many the table has then.
+fn counts_of_deletion(alloc: Global) -> Result<(usize, usize), Fail> {
     let catalog = examples(alloc)?;
     let delete = catalog.procedure(DELETE).ok_or("no procedure")?;
-    let args = arguments(alloc, &[Text(b"b")])?;
-    Ok(run_alone(alloc, delete, args, table)?.changes)
+    let before = two_keys(alloc)?;
+    let changes = changes_of(alloc, delete, &before)?;
+    Ok((changes.len(), before.len()))
 }
 
 fn without_second(alloc: Global) -> Result<Table<Global>, Fail> {
     let catalog = examples(alloc)?;
     let delete = catalog.procedure(DELETE).ok_or("no procedure")?;
-    let args = arguments(alloc, &[Text(b"b")])?;
+    let args = second_key(alloc)?;
     Ok(run_whole(alloc, delete, args, two_keys(alloc)?)?.table)
 }
 
 #[test]
 fn changes_and_tables(rt: HostRuntime) -> Result<(), Fail> {
-    let before = two_keys(rt.alloc())?;
-    let changes = deletion(rt.alloc(), &before)?;
-    assert_eq!(rt; (changes.len(), before.len()), (1, 2));
+    assert_eq!(rt; counts_of_deletion(rt.alloc())?, (1, 2));
     let after = without_second(rt.alloc())?;
-    let left = numbers(rt.alloc(), &after)?;
-    assert_eq!(rt; left.as_slice(), [(b'a', Some(5))].as_slice());
+    assert!(rt; holds(&after, &[(b'a', 5)]));
     Ok(())
 }
 
@@ -411,9 +414,8 @@ fn emptied_table(rt: HostRuntime) -> Result<(), Fail> {
 
 fn inserting(alloc: Global) -> Result<Catalog<Global>, Fail> {
     // new(key, value): insert $0 $1
-    let code = vec![in alloc; Instr::Insert(Operand::Arg(0), Operand::Arg(1))]?;
-    let new = procedure(2, code)?;
-    Ok(Catalog::new(Sequence::new(vec![in alloc; new]?))?)
+    let code = vec![in alloc; Instr::Insert(arg(0), arg(1))]?;
+    Ok(catalog_of(alloc, 2, code)??)
 }
 
 fn key_and_number(alloc: Global) -> Result<Sequence<Literal, Global>, Fail> {

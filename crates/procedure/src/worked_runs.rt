@@ -1,7 +1,7 @@
 //! The worked runs of the example procedures.
 use super::*;
 use crate::tests::{
-    DELETE, DEPOSIT, GET, Given, MOVE, NEW, SET, SWAP, arguments, examples, numbers, table,
+    DELETE, DEPOSIT, GET, Given, MOVE, NEW, SET, SWAP, arguments, examples, holds, table,
 };
 use Given::{Number, Text};
 use std::alloc::Global;
@@ -31,45 +31,28 @@ fn finished(
     Ok(run_whole(alloc, procedure, args, before)?)
 }
 
-fn numbers_of_replies(
+/// Whether these are the replies, as numbers.
+fn are(replies: &[Option<Value<Global>>], numbers: &[Option<u64>]) -> bool {
+    replies.len() == numbers.len()
+        && replies.iter().zip(numbers).all(|(reply, number)| {
+            let found = reply.as_ref().and_then(|value| value.as_number());
+            found == *number && reply.is_some() == number.is_some()
+        })
+}
+
+/// The outcome of a row's call, and whether its replies and its table are the row's.
+fn run_of(
     alloc: Global,
-    replies: &[Option<Value<Global>>],
-) -> Result<Vec<Option<u64>>, Fail> {
-    let mut found = Vec::new(alloc);
-    for reply in replies {
-        found.push(match reply {
-            Some(value) => value.as_number(),
-            None => None,
-        })?;
-    }
-    Ok(found)
-}
-
-fn expected(alloc: Global, pairs: &[(u8, u64)]) -> Result<Vec<(u8, Option<u64>)>, Fail> {
-    let mut wanted = Vec::new(alloc);
-    for (key, number) in pairs {
-        wanted.push((*key, Some(*number)))?;
-    }
-    Ok(wanted)
-}
-
-fn run_row<R: Abort + AllocGlobal>(
-    rt: &R,
     catalog: &Catalog<Global>,
     row: &Row<'_>,
-) -> Result<(), Fail> {
-    let done = finished(rt.alloc(), catalog, row)?;
-    assert_eq!(rt; done.outcome, row.outcome);
-    let replies = numbers_of_replies(rt.alloc(), done.replies.as_slice())?;
-    assert_eq!(rt; replies.as_slice(), row.replies);
-    let found = numbers(rt.alloc(), &done.table)?;
-    let wanted = expected(rt.alloc(), row.after)?;
-    assert_eq!(rt; found.as_slice(), wanted.as_slice());
-    Ok(())
+) -> Result<(u8, bool, bool), Fail> {
+    let done = finished(alloc, catalog, row)?;
+    let replies = are(done.replies.as_slice(), row.replies);
+    Ok((done.outcome, replies, holds(&done.table, row.after)))
 }
 
 /// Each outcome of the worked procedures.
-const ROWS: [Row<'static>; 18] = [
+static ROWS: [Row<'static>; 18] = [
     Row {
         procedure: GET,
         args: &[Text(b"a")],
@@ -216,11 +199,17 @@ const ROWS: [Row<'static>; 18] = [
     },
 ];
 
+/// Compares what each row's call leaves.
+fn check_rows(rt: &impl Abort, alloc: Global, catalog: &Catalog<Global>) -> Result<(), Fail> {
+    for (place, row) in ROWS.iter().enumerate() {
+        let found = run_of(alloc, catalog, row)?;
+        assert_eq!(rt; (place, found), (place, (row.outcome, true, true)));
+    }
+    Ok(())
+}
+
 #[test]
 fn worked_runs(rt: HostRuntime) -> Result<(), Fail> {
     let catalog = examples(rt.alloc())?;
-    for row in &ROWS {
-        run_row(&rt, &catalog, row)?;
-    }
-    Ok(())
+    check_rows(&rt, rt.alloc(), &catalog)
 }
