@@ -10,7 +10,7 @@ done
 diff <(./tour.sh) tour.expected
 echo "tour.sh: as expected"
 # A page, which of its programs, and the test that it is.
-for shown in README.md=1=embedding docs/EMBEDDING.md=1=service docs/EMBEDDING.md=2=live_log; do
+for shown in README.md=1=embedding docs/EMBEDDING.md=1=service docs/EMBEDDING.md=2=live_log docs/EMBEDDING.md=3=next_cores; do
     IFS='=' read -r page place test <<< "$shown"
     diff <(awk -v place="$place" '/^```rust$/ { inside = ++count == place; next } /^```$/ { inside = 0 } inside' "../$page") \
         <(tail -n +3 "../crates/calcdb/src/tests/$test.rt")

@@ -23,6 +23,7 @@ mod made_files;
 mod many_sessions;
 mod merges;
 mod new_files;
+mod next_cores;
 mod reclaims;
 mod recoveries;
 mod refused_in_calls;
