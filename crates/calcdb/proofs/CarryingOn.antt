@@ -7,10 +7,11 @@ use Rattle.procedure.specs.Bytes.{Bytes}
 use Rattle.procedure.specs.Procedures.{Procedure}
 use Rattle.phase.specs.declared.phases.Phase.{Phase}
 use Rattle.phase.specs.declared.phases.Phase.TheVariants.{Rest, Prepare, Resolve, Capture, Complete}
+use Rattle.commitlog.specs.Records.{Record}
 use Rattle.image.specs.Images.{Image}
 use Rattle.image.specs.declared.images.Kind.{Kind}
 use Rattle.steps.specs.Checkpointing.{AdvancesTo, CapturesAs, CompletesBy}
-use Rattle.steps.specs.CoreViews.{CoreView, Finishes, OfOpen, Steps, Underway, open_at}
+use Rattle.steps.specs.CoreViews.{CoreView, Finishes, OfOpen, Steps, Underway, answer_of, open_at}
 use Rattle.steps.specs.Refusals.{unfinished, unstepped}
 use Rattle.steps.specs.Schedules.{AbandonsAs, AdvancesAs, BeginsAs, FinishesAs, GivesUpAs, Handles, HandlesAll, StartsAs, StepsAs, VisitsAs, image_in, images_in}
 use Rattle.steps.specs.declared.captures.Captured.{Captured}
@@ -36,81 +37,110 @@ use Rattle.calcdb.specs.declared.commands.Command.{Command}
 use Rattle.calcdb.specs.declared.faults.Fault.{Fault}
 use Rattle.calcdb.specs.declared.faults.Fault.TheVariants as fault
 
--- THE CATALOG STAYS
+-- THE LOG GROWS
 
-begin_kept : (old new : CoreView) (s n p : ℕ) (args : List Bytes) (r : Result (Unit {0}) BeginError) → BeginsAs old new s n p args r → new.catalog ≡ old.catalog
-begin_kept old new s n p args (Ok x) h = ap (λ (v : CoreView). v.catalog) h.begun
-begin_kept old new s n p args (Err e) h = ap (λ (v : CoreView). v.catalog) h.refused
+-- the catalog and the opening stay, and the log goes on
+pub record Continues (old new : CoreView) : Type 0 where
+  pub catalog : new.catalog ≡ old.catalog
+  pub opening : new.opening ≡ old.opening
+  pub more : List Record
+  pub log : new.log ≡ old.log ++ more
 
-step_open : (old new : CoreView) (s : ℕ) (o : Option Underway) → open_at old s ≡ o → OfOpen old s (Steps old new s) → unstepped old s (open_at old s) ≡ None → new.catalog ≡ old.catalog
+stays : (old new : CoreView) → new.catalog ≡ old.catalog → new.opening ≡ old.opening → new.log ≡ old.log → Continues old new
+stays old new c o l = record { catalog = c; opening = o; more = []; log = l ∙ sym (append-nil old.log) }
+
+same_core : (old new : CoreView) → new ≡ old → Continues old new
+same_core old new e = stays old new (ap (λ (v : CoreView). v.catalog) e) (ap (λ (v : CoreView). v.opening) e) (ap (λ (v : CoreView). v.log) e)
+
+-- a token more, whatever becomes of the checkpoint
+token_more : (old new mid : CoreView) (r : Record) → new ≡ mid → mid.catalog ≡ old.catalog → mid.opening ≡ old.opening → mid.log ≡ old.log ++ r ∷ [] → Continues old new
+token_more old new mid r e c o l =
+    record { catalog = ap (λ (v : CoreView). v.catalog) e ∙ c; opening = ap (λ (v : CoreView). v.opening) e ∙ o; more = r ∷ []; log = ap (λ (v : CoreView). v.log) e ∙ l }
+
+same_parts : (old new mid : CoreView) → new ≡ mid → mid.catalog ≡ old.catalog → mid.opening ≡ old.opening → mid.log ≡ old.log → Continues old new
+same_parts old new mid e c o l = stays old new (ap (λ (v : CoreView). v.catalog) e ∙ c) (ap (λ (v : CoreView). v.opening) e ∙ o) (ap (λ (v : CoreView). v.log) e ∙ l)
+
+pub continues_twice : (old mid new : CoreView) → Continues old mid → Continues mid new → Continues old new
+continues_twice old mid new h k = record {
+  catalog = k.catalog ∙ h.catalog;
+  opening = k.opening ∙ h.opening;
+  more = h.more ++ k.more;
+  log = k.log ∙ ap (λ (l : List Record). l ++ k.more) h.log ∙ append_assoc old.log h.more k.more;
+}
+
+begin_on : (old new : CoreView) (s n p : ℕ) (args : List Bytes) (r : Result (Unit {0}) BeginError) → BeginsAs old new s n p args r → Continues old new
+begin_on old new s n p args (Ok x) h = same_parts old new _ h.begun refl refl refl
+begin_on old new s n p args (Err e) h = same_core old new h.refused
+
+step_open : (old new : CoreView) (s : ℕ) (o : Option Underway) → open_at old s ≡ o → OfOpen old s (Steps old new s) → unstepped old s (open_at old s) ≡ None → Continues old new
 step_open old new s None is h k = let bad = rw is at k in absurd (cc)
-step_open old new s (Some c) is h k = (h c is).same.catalog
+step_open old new s (Some c) is h k = stays old new (h c is).same.catalog (h c is).same.opening (h c is).log
 
-step_kept : (old new : CoreView) (s : ℕ) (r : Result Stepped StepError) → StepsAs old new s r → new.catalog ≡ old.catalog
-step_kept old new s (Ok x) h = step_open old new s (open_at old s) refl h.stepped h.refusal
-step_kept old new s (Err e) h = ap (λ (v : CoreView). v.catalog) h.refused
+step_on : (old new : CoreView) (s : ℕ) (r : Result Stepped StepError) → StepsAs old new s r → Continues old new
+step_on old new s (Ok x) h = step_open old new s (open_at old s) refl h.stepped h.refusal
+step_on old new s (Err e) h = same_core old new h.refused
 
-finish_open : (old new : CoreView) (s : ℕ) (o : Option Underway) → open_at old s ≡ o → OfOpen old s (Finishes old new s) → unfinished old (open_at old s) ≡ None → new.catalog ≡ old.catalog
+finish_open : (old new : CoreView) (s : ℕ) (o : Option Underway) → open_at old s ≡ o → OfOpen old s (Finishes old new s) → unfinished old (open_at old s) ≡ None → Continues old new
 finish_open old new s None is h k = let bad = rw is at k in absurd (cc)
-finish_open old new s (Some c) is h k = (h c is).same.catalog
+finish_open old new s (Some c) is h k = record { catalog = (h c is).same.catalog; opening = (h c is).same.opening; more = answer_of old s c ∷ []; log = (h c is).log }
 
-give_up_kept : (old new : CoreView) (s : ℕ) (r : Result (Unit {0}) NotActive) → GivesUpAs old new s r → new.catalog ≡ old.catalog
-give_up_kept old new s (Ok x) h = h.given_up.same.catalog
-give_up_kept old new s (Err e) h = ap (λ (v : CoreView). v.catalog) h.refused
+give_up_on : (old new : CoreView) (s : ℕ) (r : Result (Unit {0}) NotActive) → GivesUpAs old new s r → Continues old new
+give_up_on old new s (Ok x) h = stays old new h.given_up.same.catalog h.given_up.same.opening h.given_up.log
+give_up_on old new s (Err e) h = same_core old new h.refused
 
-start_kept : (old new : CoreView) (k : Kind) (r : Result ℕ StartError) → StartsAs old new k r → new.catalog ≡ old.catalog
-start_kept old new k (Ok x) h = ap (λ (v : CoreView). v.catalog) h.started
-start_kept old new k (Err e) h = ap (λ (v : CoreView). v.catalog) h.refused
+start_on : (old new : CoreView) (k : Kind) (r : Result ℕ StartError) → StartsAs old new k r → Continues old new
+start_on old new k (Ok x) h = token_more old new _ _ h.started refl refl refl
+start_on old new k (Err e) h = same_core old new h.refused
 
-completed_kept : (way : Way) (old new : CoreView) → CompletesBy way old new → new.catalog ≡ old.catalog
-completed_kept Whole old new h = ap (λ (v : CoreView). v.catalog) h.2
-completed_kept Streamed old new h = ap (λ (v : CoreView). v.catalog) h.2
+completed_on : (way : Way) (old new : CoreView) → CompletesBy way old new → Continues old new
+completed_on Whole old new h = token_more old new _ _ h.2 refl refl refl
+completed_on Streamed old new h = token_more old new _ _ h.2 refl refl refl
 
-advanced_kept : (p : Phase) (old new : CoreView) → AdvancesTo p old new → new.catalog ≡ old.catalog
-advanced_kept Prepare old new h = absurd h
-advanced_kept Resolve old new h = ap (λ (v : CoreView). v.catalog) h
-advanced_kept Capture old new h = ap (λ (v : CoreView). v.catalog) h.2
-advanced_kept Complete old new h = completed_kept old.checkpoint.way old new h
-advanced_kept Rest old new h = ap (λ (v : CoreView). v.catalog) h
+advanced_on : (p : Phase) (old new : CoreView) → AdvancesTo p old new → Continues old new
+advanced_on Prepare old new h = absurd h
+advanced_on Resolve old new h = token_more old new _ _ h refl refl refl
+advanced_on Capture old new h = token_more old new _ _ h.2 refl refl refl
+advanced_on Complete old new h = completed_on old.checkpoint.way old new h
+advanced_on Rest old new h = token_more old new _ _ h refl refl refl
 
-advance_kept : (old new : CoreView) (r : Result Phase AdvanceError) → AdvancesAs old new r → new.catalog ≡ old.catalog
-advance_kept old new (Ok p) h = advanced_kept p old new h.advanced
-advance_kept old new (Err e) h = ap (λ (v : CoreView). v.catalog) h.refused
+advance_on : (old new : CoreView) (r : Result Phase AdvanceError) → AdvancesAs old new r → Continues old new
+advance_on old new (Ok p) h = advanced_on p old new h.advanced
+advance_on old new (Err e) h = same_core old new h.refused
 
-captured_kept : (x : Captured) (old new : CoreView) → CapturesAs x old new → new.catalog ≡ old.catalog
-captured_kept Slot old new h = ap (λ (v : CoreView). v.catalog) h.rest
-captured_kept Done old new h = ap (λ (v : CoreView). v.catalog) h.1
+captured_on : (x : Captured) (old new : CoreView) → CapturesAs x old new → Continues old new
+captured_on Slot old new h = same_parts old new _ h.rest refl refl refl
+captured_on Done old new h = same_parts old new _ h.1 refl refl refl
 
-capture_kept : (old new : CoreView) (r : Result Captured CaptureError) → VisitsAs old new r → new.catalog ≡ old.catalog
-capture_kept old new (Ok x) h = captured_kept x old new h.captured
-capture_kept old new (Err e) h = ap (λ (v : CoreView). v.catalog) h.refused
+capture_on : (old new : CoreView) (r : Result Captured CaptureError) → VisitsAs old new r → Continues old new
+capture_on old new (Ok x) h = captured_on x old new h.captured
+capture_on old new (Err e) h = same_core old new h.refused
 
-abandon_kept : (old new : CoreView) (r : Result ℕ AbandonError) → AbandonsAs old new r → new.catalog ≡ old.catalog
-abandon_kept old new (Ok x) h = ap (λ (v : CoreView). v.catalog) h.abandoned
-abandon_kept old new (Err e) h = ap (λ (v : CoreView). v.catalog) h.refused
+abandon_on : (old new : CoreView) (r : Result ℕ AbandonError) → AbandonsAs old new r → Continues old new
+abandon_on old new (Ok x) h = token_more old new _ _ h.abandoned refl refl refl
+abandon_on old new (Err e) h = same_core old new h.refused
 
 module _ {A : Type 0} where
-  finish_kept : (old new : CoreView) (s : ℕ) (r : Result (Answer A) FinishError) → FinishesAs old new s r → new.catalog ≡ old.catalog
-  finish_kept old new s (Ok x) h = finish_open old new s (open_at old s) refl h.finished h.refusal
-  finish_kept old new s (Err e) h = ap (λ (v : CoreView). v.catalog) h.refused
+  finish_on : (old new : CoreView) (s : ℕ) (r : Result (Answer A) FinishError) → FinishesAs old new s r → Continues old new
+  finish_on old new s (Ok x) h = finish_open old new s (open_at old s) refl h.finished h.refusal
+  finish_on old new s (Err e) h = same_core old new h.refused
 
-  event_kept : (e : Event A) (old new : CoreView) (x : Handled A) → Handles e old new x → new.catalog ≡ old.catalog
-  event_kept (event.Begin s n p args) old new x (r, is, h) = begin_kept old new s n p _ r h
-  event_kept (event.Step s) old new x (r, is, h) = step_kept old new s r h
-  event_kept (event.Finish s) old new x (r, is, h) = finish_kept old new s r h
-  event_kept (event.GiveUp s) old new x (r, is, h) = give_up_kept old new s r h
-  event_kept (event.Start k) old new x (r, is, h) = start_kept old new k r h
-  event_kept event.Advance old new x (r, is, h) = advance_kept old new r h
-  event_kept event.Capture old new x (r, is, h) = capture_kept old new r h
-  event_kept event.TakeImage old new x (i, is, h) = ap (λ (v : CoreView). v.catalog) h.taken
-  event_kept event.Reclaim old new x (key, is, h) = ap (λ (v : CoreView). v.catalog) h.reclaimed.rest
-  event_kept event.Abandon old new x (r, is, h) = abandon_kept old new r h
+  event_on : (e : Event A) (old new : CoreView) (x : Handled A) → Handles e old new x → Continues old new
+  event_on (event.Begin s n p args) old new x (r, is, h) = begin_on old new s n p _ r h
+  event_on (event.Step s) old new x (r, is, h) = step_on old new s r h
+  event_on (event.Finish s) old new x (r, is, h) = finish_on old new s r h
+  event_on (event.GiveUp s) old new x (r, is, h) = give_up_on old new s r h
+  event_on (event.Start k) old new x (r, is, h) = start_on old new k r h
+  event_on event.Advance old new x (r, is, h) = advance_on old new r h
+  event_on event.Capture old new x (r, is, h) = capture_on old new r h
+  event_on event.TakeImage old new x (i, is, h) = same_parts old new _ h.taken refl refl refl
+  event_on event.Reclaim old new x (key, is, h) = same_parts old new _ h.reclaimed.rest refl refl refl
+  event_on event.Abandon old new x (r, is, h) = abandon_on old new r h
 
-  events_kept : (es : List (Event A)) (old new : CoreView) (rs : List (Handled A)) → HandlesAll es old new rs → new.catalog ≡ old.catalog
-  events_kept [] old new [] h = ap (λ (v : CoreView). v.catalog) (sym h)
-  events_kept [] old new (r ∷ rs) h = absurd h
-  events_kept (e ∷ es) old new [] h = absurd h
-  events_kept (e ∷ es) old new (r ∷ rs) (mid, h, k) = events_kept es mid new rs k ∙ event_kept e old mid r h
+  events_on : (es : List (Event A)) (old new : CoreView) (rs : List (Handled A)) → HandlesAll es old new rs → Continues old new
+  events_on [] old new [] h = same_core old new (sym h)
+  events_on [] old new (r ∷ rs) h = absurd h
+  events_on (e ∷ es) old new [] h = absurd h
+  events_on (e ∷ es) old new (r ∷ rs) (mid, h, k) = continues_twice old mid new (event_on e old mid r h) (events_on es mid new rs k)
 
   -- ONE AFTER ANOTHER
 
@@ -149,9 +179,8 @@ module _ {A : Type 0} where
     carries_more catalog cs c es2 fs rs2 qs t2 u others h,
   )
 
-  pub catalog_kept : (P : List (Event A) → List (Handled A) → Bytes → Type 0) (old new : CoreView) (text : Bytes) (images : List Image) → Carried {A = A} P old new text images →
-      new.catalog ≡ old.catalog
-  catalog_kept P old new text images c = events_kept c.events old new c.each c.handled
+  pub carried_on : (P : List (Event A) → List (Handled A) → Bytes → Type 0) (old new : CoreView) (text : Bytes) (images : List Image) → Carried {A = A} P old new text images → Continues old new
+  carried_on P old new text images c = events_on c.events old new c.each c.handled
 
   pub carried_none : (catalog : List Procedure) (v : CoreView) → Carried {A = A} (CarriesAll catalog []) v v [] []
   carried_none catalog v = record { events = []; each = []; handled = refl; says = (refl, refl, refl); taken = refl }

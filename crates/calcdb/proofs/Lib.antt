@@ -9,6 +9,7 @@ pub mod Digested
 pub mod Endings
 pub mod FileReadings
 pub mod InstructionLines
+pub mod Keeping
 pub mod Lawful
 pub mod LinesAfter
 pub mod Loading

@@ -3,6 +3,7 @@ pub mod Commands
 pub mod Failures
 pub mod ImageFiles
 pub mod Instructions
+pub mod Journals
 pub mod LineByLine
 pub mod Lines
 pub mod Merging

@@ -1,19 +1,20 @@
 //! A run of a script, from its reader to its writer.
 
-ghost use Rattle.std.specs.Prelude.{◌≡◌, Err, IfErr, IfOk, Ok, Some, true};
+ghost use Rattle.std.specs.Prelude.{◌≡◌, ◌⊎◌, [], IfErr, IfOk, Some, true};
 ghost use Rattle.std.specs.Io.KnownBytes.{Appends};
 ghost use Rattle.procedure.specs.Bytes.{Bytes};
 ghost use Rattle.image.specs.Openings.{is_opening};
 ghost use Rattle.steps.specs.Openings.{IsOpened};
 ghost use Rattle.steps.specs.CoreViews.{CoreView};
-ghost use Rattle.calcdb.specs.Outcomes.{EndsRun, RefusesScript, RunsTo, StopsAs};
+ghost use Rattle.calcdb.specs.Journals.{IfFault, IsUnopened, LeavesJournal, StopsFrom, StopsIn, StopsKept, taken_of};
+ghost use Rattle.calcdb.specs.Outcomes.{EndsRun, RefusesScript, RunsTo};
 ghost use Rattle.calcdb.specs.Scripts.{schedule_of};
-ghost use Rattle.calcdb.specs.Runs.{Carried, CarriesAll, HasRun, Sent};
-ghost use Rattle.calcdb.specs.declared.faults.Fault.TheVariants as fault;
+ghost use Rattle.calcdb.specs.Runs.{Carried, CarriesAll};
 
 use crate::commands::{Arguments, Command};
 use crate::faults::refusals::write_fault;
 use crate::faults::{Fault, Reason};
+use crate::journals::{Journal, NoJournal, Stop};
 use crate::run::run_commands;
 use crate::scripts::{SCRIPT_BYTES, Schedule, Script, ScriptFault, read_schedule};
 use image::Image;
@@ -45,64 +46,122 @@ pub(crate) fn refuse_script<W: Write, A: Allocator + Clone>(
 }
 
 /// Carries out commands on a core, which is left with the images that they took.
-fn run_on<W: Write, A: Allocator + Copy>(
+fn run_on<J: Journal<A>, W: Write, A: Allocator + Copy>(
     alloc: A,
+    journal: &mut J,
     writer: &mut W,
     mut core: Core<A>,
     commands: Vec<Command<Arguments<A>>, A>,
-) -> Result<Ran<A>, Fault>
+) -> Result<Ran<A>, Stop<J::Failure>>
     ensures ok { IfOk result (λ r. (text : Bytes) × Carried {A = A} (CarriesAll core.catalog commands.items) core r.core text r.images.items × Appends (W.contents writer.old) (W.contents writer.new) text) }
-    ensures err { IfErr result (λ f. (new : CoreView) × (text : Bytes) × HasRun A core.catalog commands.items core new text × Sent (Err f) (W.contents writer.old) (W.contents writer.new) text) }
+    ensures kept { (start : J) → J.Has start journal.old (taken_of core []) → IfOk result (λ r. J.Has start journal.new (taken_of r.core r.images.items)) }
+    ensures err { (start : J) → J.Has start journal.old (taken_of core []) → IfErr result (λ s. (new : CoreView) × StopsIn A core.catalog commands.items core new (W.contents writer.old) (W.contents writer.new) (J.Has start journal.new) (J.HasFront start journal.new) s) }
 {
-    match run_commands(alloc, &mut core, writer, commands) {
+    match run_commands(alloc, journal, &mut core, writer, commands) {
         Ok(images) => Ok(Ran { core, images }),
-        Err(fault) => {
+        Err(stop) => {
             drop(core);
-            Err(fault)
+            Err(stop)
         }
     }
 }
 
-/// Carries out a script on a core that is opened for it.
-fn run_opened<W: Write, A: Allocator + Copy>(
+/// Carries out commands on a core that was just opened, of which the journal has the opening before the first
+/// command.
+fn run_begun<J: Journal<A>, W: Write, A: Allocator + Copy>(
     alloc: A,
+    journal: &mut J,
+    writer: &mut W,
+    core: Core<A>,
+    commands: Vec<Command<Arguments<A>>, A>,
+) -> Result<Ran<A>, Stop<J::Failure>>
+    requires { core.log ≡ [] }
+    ensures ok { IfOk result (λ r. (text : Bytes) × Carried {A = A} (CarriesAll core.catalog commands.items) core r.core text r.images.items × Appends (W.contents writer.old) (W.contents writer.new) text) }
+    ensures kept { IfOk result (λ r. J.Has journal.old journal.new (taken_of r.core r.images.items)) }
+    ensures err { IfErr result (λ s. StopsFrom A core.catalog commands.items core (W.contents writer.old) (W.contents writer.new) (J.Has journal.old journal.new) (J.HasFront journal.old journal.new) s) }
+{
+    match journal.open(alloc, &core) {
+        Ok(()) => run_on(alloc, journal, writer, core, commands),
+        Err(failure) => Err(Stop::Journal(failure)),
+    }
+}
+
+/// Carries out a script on a core that is opened for it.
+fn run_opened<J: Journal<A>, W: Write, A: Allocator + Copy>(
+    alloc: A,
+    journal: &mut J,
     writer: &mut W,
     script: Schedule<A>,
     opening: Image<A>,
-) -> Result<Ran<A>, Fault>
+) -> Result<Ran<A>, Stop<J::Failure>>
     requires { is_opening opening ≡ true }
     ensures ok { IfOk result (λ r. (first : CoreView) × (text : Bytes) × IsOpened script.catalog opening first × Carried {A = A} (CarriesAll script.catalog script.commands) first r.core text r.images.items × Appends (W.contents writer.old) (W.contents writer.new) text) }
-    ensures err { IfErr result (λ f. StopsAs A script opening (W.contents writer.old) (W.contents writer.new) f) }
+    ensures kept { IfOk result (λ r. J.Has journal.old journal.new (taken_of r.core r.images.items)) }
+    ensures err { IfErr result (λ s. IsUnopened s (journal.new ≡ journal.old) (W.contents writer.old) (W.contents writer.new) ⊎ StopsKept A script opening (W.contents writer.old) (W.contents writer.new) (J.Has journal.old journal.new) (J.HasFront journal.old journal.new) s) }
 {
     let Script { catalog, commands } = script;
     match Core::open(alloc, catalog, opening) {
-        Ok(core) => run_on(alloc, writer, core, commands.into_vec()),
+        Ok(core) => run_begun(alloc, journal, writer, core, commands.into_vec()),
         // The opening is one, so memory was wanting.
-        Err(_) => Err(Fault::NoMemory),
+        Err(_) => Err(Stop::Fault(Fault::NoMemory)),
     }
 }
 
 /// Checks a text and carries it out.
-fn run_text<W: Write, A: Allocator + Copy>(
+fn run_text<J: Journal<A>, W: Write, A: Allocator + Copy>(
     alloc: A,
+    journal: &mut J,
     writer: &mut W,
     text: &[u8],
     opening: Image<A>,
-) -> Result<Ran<A>, Fault>
+) -> Result<Ran<A>, Stop<J::Failure>>
     requires { is_opening opening ≡ true }
     ensures run { IfOk result (λ r. (out : Bytes) × RunsTo A (schedule_of text.now) opening r.core out r.images.items × Appends (W.contents writer.old) (W.contents writer.new) out) }
-    ensures fault { IfErr result (λ f. EndsRun A (schedule_of text.now) opening (W.contents writer.old) (W.contents writer.new) f) }
+    ensures fault { IfErr result (IfFault (λ f. EndsRun A (schedule_of text.now) opening (W.contents writer.old) (W.contents writer.new) f)) }
+    ensures kept { IfOk result (λ r. J.Has journal.old journal.new (taken_of r.core r.images.items)) }
+    ensures stopped { IfErr result (LeavesJournal A (schedule_of text.now) opening (W.contents writer.old) (W.contents writer.new) (journal.new ≡ journal.old) (J.Has journal.old journal.new) (J.HasFront journal.old journal.new)) }
 {
     match read_schedule(alloc, text) {
-        Ok(script) => run_opened(alloc, writer, script, opening),
-        Err(fault) => Err(refuse_script(alloc, writer, fault)),
+        Ok(script) => run_opened(alloc, journal, writer, script, opening),
+        Err(fault) => Err(Stop::Fault(refuse_script(alloc, writer, fault))),
     }
 }
 
 /// Runs the script that a reader gives on a core that is opened from an image, and writes the line of
 /// each command's answer before it begins the next. The opening is looked at first, then the whole text;
 /// where one of them is faulty, one line says so and nothing else is written. A read or write that fails,
-/// by an interruption too, and a write of no byte end the run.
+/// by an interruption too, and a write of no byte end the run. A journal has what the core was opened with
+/// before the first command, and what each command adds before its answer; where it fails the run ends.
+pub(crate) fn run_kept<J: Journal<A>, R: Read, W: Write, A: Allocator + Copy>(
+    alloc: A,
+    journal: &mut J,
+    reader: &mut R,
+    writer: &mut W,
+    opening: Image<A>,
+) -> Result<Ran<A>, Stop<J::Failure>>
+    // Where the reader tells its bytes: all of the script was carried out, its answers written, and the images
+    // are those that it took.
+    ensures run { IfOk result (λ r. (source : Bytes) → R.remaining reader.old ≡ Some source → (text : Bytes) × RunsTo A (schedule_of source) opening r.core text r.images.items × Appends (W.contents writer.old) (W.contents writer.new) text) }
+    // And else the one line of the fault, or a beginning of the answers.
+    ensures fault { IfErr result (IfFault (λ f. (source : Bytes) → R.remaining reader.old ≡ Some source → EndsRun A (schedule_of source) opening (W.contents writer.old) (W.contents writer.new) f)) }
+    // The journal has the whole log and all images.
+    ensures kept { IfOk result (λ r. J.Has journal.old journal.new (taken_of r.core r.images.items)) }
+    // Of a run that stops too; of one that the journal stops a front, and the command is not answered.
+    ensures stopped { IfErr result (λ s. (source : Bytes) → R.remaining reader.old ≡ Some source → LeavesJournal A (schedule_of source) opening (W.contents writer.old) (W.contents writer.new) (journal.new ≡ journal.old) (J.Has journal.old journal.new) (J.HasFront journal.old journal.new) s) }
+{
+    if !opening.is_opening() {
+        let refused = Fault::Refused(Reason::NotAnOpening);
+        return Err(Stop::Fault(write_fault(alloc, writer, refused)));
+    }
+    let text = match read_past(alloc, reader, SCRIPT_BYTES) {
+        Ok(text) => text,
+        Err(Unread::ReadFault) => return Err(Stop::Fault(Fault::Read)),
+        Err(Unread::NoMemory) => return Err(Stop::Fault(Fault::NoMemory)),
+    };
+    run_text(alloc, journal, writer, text.as_slice(), opening)
+}
+
+/// Runs a script as `run_kept` does, with no journal.
 pub(crate) fn run_script<R: Read, W: Write, A: Allocator + Copy>(
     alloc: A,
     reader: &mut R,
@@ -115,14 +174,9 @@ pub(crate) fn run_script<R: Read, W: Write, A: Allocator + Copy>(
     // And else the one line of the fault, or a beginning of the answers.
     ensures fault { IfErr result (λ f. (source : Bytes) → R.remaining reader.old ≡ Some source → EndsRun A (schedule_of source) opening (W.contents writer.old) (W.contents writer.new) f) }
 {
-    if !opening.is_opening() {
-        let refused = Fault::Refused(Reason::NotAnOpening);
-        return Err(write_fault(alloc, writer, refused));
+    match run_kept(alloc, &mut NoJournal, reader, writer, opening) {
+        Ok(ran) => Ok(ran),
+        Err(Stop::Fault(fault)) => Err(fault),
+        Err(Stop::Journal(never)) => match never {},
     }
-    let text = match read_past(alloc, reader, SCRIPT_BYTES) {
-        Ok(text) => text,
-        Err(Unread::ReadFault) => return Err(Fault::Read),
-        Err(Unread::NoMemory) => return Err(Fault::NoMemory),
-    };
-    run_text(alloc, writer, text.as_slice(), opening)
 }

@@ -3,11 +3,11 @@
 //!
 //! The definitions are in `specs/`: the text of a script (`Lines`, `LineByLine`, `Values`,
 //! `Instructions`, `Preambles`, `Commands`, `ThreadCommands`, `Scripts`), the text of answers (`Output`,
-//! `Reasons`), what commands do to a core (`Runs`), how a run ends (`Outcomes`), the image of a text of
-//! pairs (`Pairs`), what files of images say, merged and recovered with a log (`ImageFiles`, `Merging`,
-//! `Recovering`, `OwnFiles`), what a file prints (`Showing`), how these commands end (`Refusing`), the
-//! files that a run leaves (`RunFiles`), the statuses and the fixed lines of standard error (`Failures`),
-//! and the command line (`CommandLines`).
+//! `Reasons`), what commands do to a core (`Runs`), how a run ends (`Outcomes`), what a journal has of it
+//! (`Journals`), the image of a text of pairs (`Pairs`), what files of images say, merged and recovered
+//! with a log (`ImageFiles`, `Merging`, `Recovering`, `OwnFiles`), what a file prints (`Showing`), how
+//! these commands end (`Refusing`), the files that a run leaves (`RunFiles`), the statuses and the fixed
+//! lines of standard error (`Failures`), and the command line (`CommandLines`).
 #![tactic(auto)]
 
 mod command_line;
@@ -19,6 +19,7 @@ mod faults;
 mod files;
 mod image_files;
 mod instructions;
+mod journals;
 mod laws;
 mod line_by_line;
 mod lines;

@@ -1,13 +1,15 @@
 //! The commands of a script, carried out on a core.
 
-ghost use Rattle.std.specs.Prelude.{◌≡◌, ◌≤◌, ◌+◌, ◌++◌, [], IfErr, IfOk, OnOk, Err, codes, slice_get, vec_capacity, vec_len};
+ghost use Rattle.std.specs.Prelude.{◌≡◌, ◌≤◌, ◌+◌, ◌++◌, [], IfErr, IfOk, OnErr, OnOk, codes, drop, length, slice_get, vec_capacity, vec_len};
 ghost use Rattle.std.specs.Io.KnownBytes.{Appends};
 ghost use Rattle.procedure.specs.Bytes.{Bytes};
 ghost use Rattle.phase.specs.Phases.{phase_text};
-ghost use Rattle.calcdb.specs.Runs.{Calls, Carried, Carries, CarriesAll, Ends, GoesOn, HasRun, Images, Says, Scans, Sent, count_of, images_shown, reply_text, shown_text};
+ghost use Rattle.calcdb.specs.Journals.{IsKept, SentUnlessUnkept, StopsIn, Taken, images_given, taken_of, with_more};
+ghost use Rattle.calcdb.specs.Runs.{Calls, Carried, Carries, CarriesAll, Ends, GoesOn, Images, Says, Scans, Sent, count_of, images_shown, reply_text, shown_text};
 
 use crate::commands::{Arguments, Command, NewCall};
 use crate::faults::Fault;
+use crate::journals::{Journal, Stop};
 use crate::output::{
     phase_name, push_answer, push_image, push_key, push_numbered, push_refusal, push_text,
 };
@@ -224,25 +226,75 @@ fn keep_image<A: Allocator>(images: &mut Vec<Image<A>, A>, shown: Shown<A>)
     }
 }
 
-/// Carries out a command, writes the line that is printed of it, and keeps the image that it took.
-fn answer<W: Write, A: Allocator + Clone>(
+/// Writes the lines that are printed of a command.
+fn write_shown<W: Write, A: Allocator + Clone>(
+    writer: &mut W,
+    line: &mut Vec<u8, A>,
+    shown: &Shown<A>,
+) -> Result<(), Fault>
+    ensures { Sent result (W.contents writer.old) (W.contents writer.new) (shown_text shown.now) }
+{
+    match print_line(line, shown) {
+        Ok(()) => {}
+        Err(NoMemory) => return Err(Fault::NoMemory),
+    }
+    match write_out(writer, line.as_slice()) {
+        Ok(()) => Ok(()),
+        Err(WriteFault) => Err(Fault::Write),
+    }
+}
+
+/// The image that a command took, if it took one.
+fn image_of<A: Allocator>(shown: &Shown<A>) -> Option<&Image<A>>
+    ensures { images_given result ≡ images_shown shown.now }
+{
+    match shown {
+        Shown::Image(image) => Some(image),
+        _ => None,
+    }
+}
+
+/// Hands a journal the records of a core's log from a place on, and the image that a command took.
+fn keep<J: Journal<A>, A: Allocator>(
+    alloc: A,
+    journal: &mut J,
+    core: &Core<A>,
+    noted: usize,
+    shown: &Shown<A>,
+) -> Result<(), J::Failure>
+    requires { noted ≤ length core.now.log }
+    ensures ok { (start : J) (t : Taken) → J.Has start journal.old t → OnOk result (J.Has start journal.new (with_more t (drop noted core.now.log) (images_shown shown.now))) }
+    ensures err { (start : J) (t : Taken) → J.Has start journal.old t → OnErr result (J.HasFront start journal.new (with_more t (drop noted core.now.log) (images_shown shown.now))) }
+{
+    journal.take(alloc, &core.records()[noted..], image_of(shown))
+}
+
+/// Carries out a command, has the journal keep what it added, writes the line that is printed of it, and keeps
+/// the image that it took.
+fn answer<J: Journal<A>, W: Write, A: Allocator + Copy>(
+    alloc: A,
+    journal: &mut J,
     core: &mut Core<A>,
     writer: &mut W,
     line: &mut Vec<u8, A>,
     images: &mut Vec<Image<A>, A>,
     command: Command<Arguments<A>>,
-) -> Result<(), Fault>
+) -> Result<(), Stop<J::Failure>>
     requires { vec_len images.old + 1 ≤ vec_capacity images.old }
-    ensures { (text : Bytes) × (taken : Images) × Carried {A = A} (Carries core.old.catalog command) core.old core.new text taken × Sent result (W.contents writer.old) (W.contents writer.new) text × OnOk result (images.new.items ≡ images.old.items ++ taken) }
+    ensures { (text : Bytes) × (taken : Images) × Carried {A = A} (Carries core.old.catalog command) core.old core.new text taken
+        × SentUnlessUnkept result (W.contents writer.old) (W.contents writer.new) text × OnOk result (images.new.items ≡ images.old.items ++ taken)
+        × ((start : J) → J.Has start journal.old (taken_of core.old images.old.items) →
+        IsKept result (J.Has start journal.new (taken_of core.new (images.old.items ++ taken))) (J.HasFront start journal.new (taken_of core.new (images.old.items ++ taken)))) }
 {
+    let noted = core.records().len();
     let shown = carry_out(core, command);
-    match print_line(line, &shown) {
+    match keep(alloc, journal, core, noted, &shown) {
         Ok(()) => {}
-        Err(NoMemory) => return Err(Fault::NoMemory),
+        Err(failure) => return Err(Stop::Journal(failure)),
     }
-    match write_out(writer, line.as_slice()) {
+    match write_shown(writer, line, &shown) {
         Ok(()) => {}
-        Err(WriteFault) => return Err(Fault::Write),
+        Err(fault) => return Err(Stop::Fault(fault)),
     }
     keep_image(images, shown);
     Ok(())
@@ -250,23 +302,33 @@ fn answer<W: Write, A: Allocator + Clone>(
 
 /// Carries out the commands, each after the line of the one before was written, and returns the images
 /// that they took, in order.
-pub(crate) fn run_commands<W: Write, A: Allocator + Copy>(
+pub(crate) fn run_commands<J: Journal<A>, W: Write, A: Allocator + Copy>(
     alloc: A,
+    journal: &mut J,
     core: &mut Core<A>,
     writer: &mut W,
     commands: Vec<Command<Arguments<A>>, A>,
-) -> Result<Vec<Image<A>, A>, Fault>
+) -> Result<Vec<Image<A>, A>, Stop<J::Failure>>
     ensures ok { IfOk result (λ images. (text : Bytes) × Carried {A = A} (CarriesAll core.old.catalog commands.items) core.old core.new text images.items × Appends (W.contents writer.old) (W.contents writer.new) text) }
-    ensures err { IfErr result (λ f. (text : Bytes) × HasRun A core.old.catalog commands.items core.old core.new text × Sent (Err f) (W.contents writer.old) (W.contents writer.new) text) }
+    ensures kept { (start : J) → J.Has start journal.old (taken_of core.old []) → IfOk result (λ images. J.Has start journal.new (taken_of core.new images.items)) }
+    ensures err { (start : J) → J.Has start journal.old (taken_of core.old []) → IfErr result (StopsIn A core.old.catalog commands.items core.old core.new (W.contents writer.old) (W.contents writer.new) (J.Has start journal.new) (J.HasFront start journal.new)) }
 {
     let mut line = Vec::new(alloc);
     let mut images = Vec::new(alloc);
     for command in commands {
         // Room for the image that the command may take.
         if images.reserve(1).is_err() {
-            return Err(Fault::NoMemory);
+            return Err(Stop::Fault(Fault::NoMemory));
         }
-        answer(core, writer, &mut line, &mut images, command)?;
+        answer(
+            alloc,
+            journal,
+            core,
+            writer,
+            &mut line,
+            &mut images,
+            command,
+        )?;
     }
     Ok(images)
 }

@@ -1,17 +1,63 @@
-use Rattle.std.proofs.Common.{◌≡◌, [], refl, sym, ◌∙◌}
+use Rattle.std.proofs.Common.{subst}
 use Rattle.std.proofs.KnownBytes.{Appends-nil}
 use Rattle.procedure.specs.Bytes.{Bytes}
-use Rattle.calcdb.specs.Runs.{images_shown, shown_text}
+use Rattle.calcdb.specs.Journals.{Taken}
+use Rattle.calcdb.specs.Runs.{Carries, Images, images_shown, shown_text}
+use Rattle.calcdb.proofs.CarryingOn.{carried_on}
+use Rattle.calcdb.proofs.Keeping.{all_taken, noted_before}
 use Rattle.calcdb.proofs.run.answer.Goals as goal
+
+pub keep-requires : goal.keep-requires
+keep-requires g c =
+    let text : Bytes = shown_text c.carry_out-shown.result in
+    let taken : Images = images_shown c.carry_out-shown.result in
+    let on = carried_on (Carries c.args.core.now.catalog c.args.command) c.args.core.now c.carry_out-shown.new.core text taken c.carry_out-shown.ensures in
+    noted_before c.args.core.now c.carry_out-shown.new.core c.records-noted.result.now c.records-noted.ensures.value on
 
 pub returns-in-Err : goal.returns-in-Err
 returns-in-Err g c =
+    let old = c.args.core.now in
+    let new = c.carry_out-shown.new.core in
     let text : Bytes = shown_text c.carry_out-shown.result in
-    (text, images_shown c.carry_out-shown.result, c.carry_out-shown.ensures, ([], text, refl, Appends-nil (g.W.Write.contents c.args.writer.now)), tt)
+    let taken : Images = images_shown c.carry_out-shown.result in
+    let on = carried_on (Carries old.catalog c.args.command) old new text taken c.carry_out-shown.ensures in
+    let all = all_taken old new c.records-noted.result.now c.args.images.now.items taken c.records-noted.ensures.value on in (
+      text,
+      taken,
+      c.carry_out-shown.ensures,
+      Appends-nil (g.W.Write.contents c.args.writer.now),
+      tt,
+      λ start has. subst (λ (t : Taken). g.J.Journal.HasFront start c.keep.new.journal t) all (c.in-Err.ensures.err start _ has),
+    )
 
-pub returns-in-Err-write_out : goal.returns-in-Err-write_out
-returns-in-Err-write_out g c =
+pub returns-in-Err-write_shown : goal.returns-in-Err-write_shown
+returns-in-Err-write_shown g c =
+    let old = c.args.core.now in
+    let new = c.carry_out-shown.new.core in
     let text : Bytes = shown_text c.carry_out-shown.result in
-    let is : text ≡ c.as_slice.result.now = sym (c.as_slice.ensures.value ∙ c.in-Ok.ensures) in
-    let begun = c.in-Err-write_out.ensures.err in
-    (text, images_shown c.carry_out-shown.result, c.carry_out-shown.ensures, (begun.0, begun.1, is ∙ begun.2, begun.3), tt)
+    let taken : Images = images_shown c.carry_out-shown.result in
+    let on = carried_on (Carries old.catalog c.args.command) old new text taken c.carry_out-shown.ensures in
+    let all = all_taken old new c.records-noted.result.now c.args.images.now.items taken c.records-noted.ensures.value on in (
+      text,
+      taken,
+      c.carry_out-shown.ensures,
+      c.in-Err-write_shown.ensures,
+      tt,
+      λ start has. subst (λ (t : Taken). g.J.Journal.Has start c.keep.new.journal t) all (c.in-Ok.ensures.ok start _ has),
+    )
+
+pub returns : goal.returns
+returns g c =
+    let old = c.args.core.now in
+    let new = c.carry_out-shown.new.core in
+    let text : Bytes = shown_text c.carry_out-shown.result in
+    let taken : Images = images_shown c.carry_out-shown.result in
+    let on = carried_on (Carries old.catalog c.args.command) old new text taken c.carry_out-shown.ensures in
+    let all = all_taken old new c.records-noted.result.now c.args.images.now.items taken c.records-noted.ensures.value on in (
+      text,
+      taken,
+      c.carry_out-shown.ensures,
+      c.in-Ok-write_shown.ensures,
+      c.keep_image.ensures,
+      λ start has. subst (λ (t : Taken). g.J.Journal.Has start c.keep.new.journal t) all (c.in-Ok.ensures.ok start _ has),
+    )

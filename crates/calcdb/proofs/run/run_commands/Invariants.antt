@@ -1,7 +1,8 @@
-use Rattle.std.proofs.Common.{◌≡◌, ◌++◌, List, length}
+use Rattle.std.proofs.Common.{◌≡◌, [], ◌++◌, List, length}
 use Rattle.std.specs.Vec.Iter.{into_iter_items, into_iter_len}
 use Rattle.std.specs.Io.KnownBytes.{Appends}
 use Rattle.procedure.specs.Bytes.{Bytes}
+use Rattle.calcdb.specs.Journals.{taken_of}
 use Rattle.calcdb.specs.Runs.{Carried, CarriesAll}
 use Rattle.calcdb.specs.declared.commands.Command.{Command}
 use Rattle.calcdb.proofs.run.run_commands.Given as goal
@@ -16,4 +17,5 @@ invariant-loop-command g l = record {
   sent : Appends (g.W.Write.contents l.initial.writer) (g.W.Write.contents l.writer) text;
   catalog : l.core.catalog ≡ l.initial.core.catalog;
   count : into_iter_len l.command-iterator ≡ length (into_iter_items l.command-iterator);
+  kept : (start : g.row.J.Denot) → g.J.Journal.Has start l.initial.journal (taken_of l.initial.core []) → g.J.Journal.Has start l.journal (taken_of l.core l.images.items);
 }

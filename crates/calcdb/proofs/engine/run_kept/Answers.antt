@@ -1,13 +1,15 @@
-use Rattle.std.proofs.Common.{refl, sym, ◌∙◌, subst, ap}
+use Rattle.std.proofs.Common.{◌≡◌, refl, sym, ◌∙◌, subst, ap}
 use Rattle.std.proofs.lemmas.Result.{IfErr-weaker, IfOk-weaker}
+use Rattle.calcdb.specs.Journals.{LeavesJournal}
 use Rattle.calcdb.specs.Outcomes.{EndsRun, RunsTo}
 use Rattle.calcdb.specs.Scripts.{schedule_of}
 use Rattle.calcdb.specs.declared.faults.Fault.TheVariants as fault
 use Rattle.calcdb.specs.declared.faults.Reason.TheVariants.{NotAnOpening}
 use Rattle.calcdb.specs.Commands.{command_of}
 use Rattle.calcdb.proofs.Endings.{ends_refused}
+use Rattle.calcdb.proofs.Keeping.{if_fault_weaker}
 use Rattle.calcdb.proofs.TextReadings.{long_scripts, same_reading}
-use Rattle.calcdb.proofs.engine.run_script.Goals as goal
+use Rattle.calcdb.proofs.engine.run_kept.Goals as goal
 
 pub returns-then-not-is_opening-clause-fault : goal.returns-then-not-is_opening-clause-fault
 returns-then-not-is_opening-clause-fault g c = λ source known.
@@ -16,8 +18,6 @@ returns-then-not-is_opening-clause-fault g c = λ source known.
 
 pub returns-clause-run : goal.returns-clause-run
 returns-clause-run g c =
-    let old = g.W.Write.contents c.args.writer.now in
-    let new = g.W.Write.contents c.run_text.new.writer in
     IfOk-weaker c.run_text.result _ _
     (λ r h source known.
     let same = same_reading schedule_of (long_scripts command_of) (g.R.Read.remaining c.args.reader.now) (g.R.Read.remaining c.read_past.new.reader) source c.in-Ok.text.items known c.in-Ok.ensures.read c.in-Ok.ensures.end in
@@ -29,7 +29,20 @@ returns-clause-fault g c =
     let old = g.W.Write.contents c.args.writer.now in
     let new = g.W.Write.contents c.run_text.new.writer in
     IfErr-weaker c.run_text.result _ _
-    (λ f h source known.
+    (λ s h. if_fault_weaker g.row.J-Failure.Denot _ _ s
+    (λ f ends source known.
     let same = same_reading schedule_of (long_scripts command_of) (g.R.Read.remaining c.args.reader.now) (g.R.Read.remaining c.read_past.new.reader) source c.in-Ok.text.items known c.in-Ok.ensures.read c.in-Ok.ensures.end in
-    subst (λ says. EndsRun g.row.A.Denot says c.args.opening old new f) (ap schedule_of c.as_slice.ensures.value ∙ sym same) h)
+    subst (λ says. EndsRun g.row.A.Denot says c.args.opening old new f) (ap schedule_of c.as_slice.ensures.value ∙ sym same) ends) h)
     c.run_text.ensures.fault
+
+pub returns-clause-stopped : goal.returns-clause-stopped
+returns-clause-stopped g c =
+    let old = g.W.Write.contents c.args.writer.now in
+    let new = g.W.Write.contents c.run_text.new.writer in
+    let start = c.args.journal.now in
+    let journal = c.run_text.new.journal in
+    IfErr-weaker c.run_text.result _ _
+    (λ s h source known.
+    let same = same_reading schedule_of (long_scripts command_of) (g.R.Read.remaining c.args.reader.now) (g.R.Read.remaining c.read_past.new.reader) source c.in-Ok.text.items known c.in-Ok.ensures.read c.in-Ok.ensures.end in
+    subst (λ says. LeavesJournal g.row.A.Denot says c.args.opening old new (journal ≡ start) (g.J.Journal.Has start journal) (g.J.Journal.HasFront start journal) s) (ap schedule_of c.as_slice.ensures.value ∙ sym same) h)
+    c.run_text.ensures.stopped
