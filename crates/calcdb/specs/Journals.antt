@@ -54,7 +54,7 @@ module _ {F : Type 0} where
   IsKept (Err (stop.Fault f)) has front = has
   IsKept (Err (stop.Journal e)) has front = front
 
-  -- memory was wanting before the core was opened: nothing went out
+  -- there was no memory to open the core with: nothing went out
   abbrev pub IsUnopened : Stop F → (Same : Type 0) → Option Bytes → Option Bytes → Type 0
   IsUnopened s Same old new = (s ≡ stop.Fault fault.NoMemory) × Same × Appends old new []
 
@@ -72,7 +72,7 @@ module _ (A : Type 0) where
     pub taken : Images
     pub unanswered : Carried {A = A} (Carries catalog command) before new last taken
 
-  -- how commands stop on the way: the journal has the whole log and all images where it was the journal's turn no more, and else a front of them with those of
+  -- how commands stop on the way: at a fault that isn't the journal's it has the whole log and all images; where it failed itself, a front of them with those of
   -- the command that isn't answered
   module _ (catalog : List Procedure) (commands : List (Command (List Bytes))) (first core : CoreView) (old new : Option Bytes) (Has Front : Taken → Type 0) where
     abbrev pub StopsIn : {F : Type 0} → Stop F → Type 0

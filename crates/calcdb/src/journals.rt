@@ -1,4 +1,4 @@
-//! What keeps a run on its way.
+//! Journals of a run, which have what each command adds before it is answered.
 
 ghost use Rattle.std.specs.Prelude.{◌≡◌};
 ghost use Rattle.calcdb.specs.declared.journals.Stop.TheVariants as stop;
@@ -34,10 +34,10 @@ pub(crate) trait Journal<A: Allocator> {
 
     type Failure;
 
-    /// Since a start, it has got all of this.
+    /// It has taken all of this since the start.
     ghost Has: { (start now : Self) → Taken → Type 0 };
 
-    /// It has failed, and a front of this is all that it has got.
+    /// It has failed, and a front of this is all that it has taken since the start.
     ghost HasFront: { (start now : Self) → Taken → Type 0 };
 
     /// Begins with what a core was opened with.
@@ -56,7 +56,7 @@ pub(crate) trait Journal<A: Allocator> {
         ensures err { (start : Self) (t : Taken) → Has start self.old t → OnErr result (HasFront start self.new (with_more t records.now (images_given image.entry))) };
 }
 
-/// The journal of a run that is kept nowhere on its way.
+/// The journal of a run that keeps none.
 #[derive(Clone, Copy)]
 pub(crate) struct NoJournal;
 
