@@ -19,6 +19,7 @@ LARGE_LOG = 143_000
 PAIRS = 100_000
 CHAIN = 64
 DEAD = 20_000
+SYNCED = 1_000
 
 PROCEDURES = """\
 proc dep 2
@@ -45,15 +46,25 @@ class Bench:
         path.write_text(text)
         return path
 
+    def once(self, *words):
+        """The time that the program takes with these words."""
+        begun = time.perf_counter()
+        ran = subprocess.run([self.program, *map(str, words)], stdout=subprocess.DEVNULL, stderr=subprocess.PIPE)
+        took = time.perf_counter() - begun
+        if ran.returncode:
+            sys.exit(f"{self.program} {' '.join(map(str, words))} ended with {ran.returncode}: {ran.stderr.decode()}")
+        return took
+
     def seconds(self, *words):
-        """The least time that the program takes with these words."""
+        """The least time of several runs."""
+        return min(self.once(*words) for _ in range(self.runs))
+
+    def kept_up(self, *words):
+        """The least time of runs that are kept up, each in a folder of its own."""
         times = []
         for _ in range(self.runs):
-            begun = time.perf_counter()
-            ran = subprocess.run([self.program, *map(str, words)], stdout=subprocess.DEVNULL, stderr=subprocess.PIPE)
-            times.append(time.perf_counter() - begun)
-            if ran.returncode:
-                sys.exit(f"{self.program} {' '.join(map(str, words))} ended with {ran.returncode}: {ran.stderr.decode()}")
+            with tempfile.TemporaryDirectory(dir=self.folder) as folder:
+                times.append(self.once(*words, "--out", folder, "--live"))
         return min(times)
 
     def script(self, lines, opening=None):
@@ -112,6 +123,11 @@ def measure(bench):
     yield f"a script of {LARGE_LOG} calls, {size} bytes", f"{took * 1e3:10.1f} ms"
     took = bench.seconds("run", script, "--open", opening, "--out", out)
     yield "the same, with its files written", f"{took * 1e3:10.1f} ms"
+    took = bench.kept_up("run", script, "--open", opening)
+    yield "the same, kept up", f"{took * 1e3:10.1f} ms"
+    short = bench.file("short", PROCEDURES + "\n".join(deposits(SYNCED, 1_000)) + "\n")
+    took = bench.kept_up("run", short, "--open", opening, "--sync") - bench.seconds("run", short, "--open", opening)
+    yield f"each of {SYNCED} calls, kept up and synced", f"{took / SYNCED * 1e3:10.2f} ms more"
     took = bench.seconds("recover", script, out / "log", bench.folder / "recovered", opening)
     yield f"recover of a log of {LARGE_LOG} calls", f"{took * 1e3:10.1f} ms"
 

@@ -1,5 +1,5 @@
 -- What a journal takes of commands.
-use Rattle.std.proofs.Common.{◌≡◌, ◌⊎◌, inl, inr, true, ◌≤◌, List, [], ◌∷◌, ◌++◌, length, drop, arith, Option, Result, Ok, Err, refl, sym, ap, subst, ◌∙◌, append_assoc}
+use Rattle.std.proofs.Common.{◌≡◌, ◌⊎◌, inl, inr, true, ◌≤◌, ℕ, List, [], ◌∷◌, ◌++◌, length, drop, arith, Option, Result, Ok, Err, refl, sym, ap, subst, ◌∙◌, append_assoc}
 use Rattle.std.specs.Io.KnownBytes.{Appends}
 use Rattle.std.proofs.KnownBytes.{Appends-trans}
 use Rattle.std.proofs.Math.Seq.{drop-append_seam}
@@ -42,9 +42,9 @@ all_taken old new l is js noted h =
 
 -- commands from the front on, and the one at which they stop
 pub stops_at : (A F : Type 0) (catalog : List Procedure) (commands front : List (Command (List Bytes))) (d : Command (List Bytes)) (left : List (Command (List Bytes))) (first core new : CoreView) (t u : Bytes)
-    (is js : List Image) (old mid now : Option Bytes) (Has Front : Taken → Type 0) (s : Stop F) → commands ≡ front ++ (d ∷ left) →
+    (is js : List Image) (old mid now : Option Bytes) (Has : Taken → Type 0) (Front : Taken → ℕ → Type 0) (s : Stop F) → commands ≡ front ++ (d ∷ left) →
     Carried {A = A} (CarriesAll catalog front) first core t is → Carried {A = A} (Carries catalog d) core new u js → Appends old mid t → SentUnlessUnkept {F = F} (Err s) mid now u →
-    IsKept {F = F} (Err s) (Has (taken_of new (is ++ js))) (Front (taken_of new (is ++ js))) → StopsIn A catalog commands first new old now Has Front s
+    IsKept {F = F} (Err s) (Has (taken_of new (is ++ js))) (Front (taken_of new (is ++ js)) (length core.log)) → StopsIn A catalog commands first new old now Has Front s
 stops_at A F catalog commands front d left first core new t u is js old mid now Has Front (stop.Fault f) parts h k out sent kept = (
   t ++ u,
   record {
@@ -68,7 +68,7 @@ abbrev fault_in : {F : Type 0} → Stop F → Fault → Fault
 fault_in (stop.Fault g) other = g
 fault_in (stop.Journal e) other = other
 
-module _ (A F : Type 0) (old new : Option Bytes) (Has Front : Taken → Type 0) where
+module _ (A F : Type 0) (old new : Option Bytes) (Has : Taken → Type 0) (Front : Taken → ℕ → Type 0) where
   -- once the journal has begun
   pub stops_begun : (first : CoreView) (commands : List (Command (List Bytes))) (core : CoreView) (stopped : Stop F) → StopsIn A first.catalog commands first core old new Has Front stopped →
       StopsFrom A first.catalog commands first old new Has Front stopped

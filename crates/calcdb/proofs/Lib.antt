@@ -7,11 +7,11 @@ pub mod Decimals
 pub mod Declined
 pub mod Digested
 pub mod Endings
-pub mod FileReadings
 pub mod InstructionLines
 pub mod Keeping
 pub mod Lawful
 pub mod LinesAfter
+pub mod LiveRuns
 pub mod Loading
 pub mod MadeFiles
 pub mod Merges
@@ -21,7 +21,6 @@ pub mod PlanLists
 pub mod PlanScripts
 pub mod Printed
 pub mod Readers
-pub mod Recovered
 pub mod Recovering
 pub mod RecoveryEnds
 pub mod SaidLines

@@ -90,6 +90,11 @@ parted (c ∷ bs) b (Err r) (e, inr (i, s, h), same) =
 abbrev pub IsOnly : Bytes → Result Image ReadError → Type 0
 IsOnly b answer = (other : Result Image ReadError) → IsAnswer b other → (answer ≡ other) ⊎ (answer ≡ Err read_error.NoMemory)
 
+-- an image that was read is the bytes' own
+pub read_given : (b : Bytes) (i : Image) → (Ok i ≡ Err read_error.NoMemory) ⊎ IsImageSpelling i b → IsImageSpelling i b
+read_given b i (inl e) = absurd (cc)
+read_given b i (inr is) = is
+
 -- what is kept takes these images in
 abbrev pub TakesIn : Merging → Image → Merging → Type 0
 TakesIn m i n = (is : List Image) → m ≡ in_turn.after is → n ≡ in_turn.after (is ++ i ∷ [])
@@ -122,20 +127,32 @@ taken_refused files b r h = record {
     at_more (Err x) at same = let one : r ≡ x = cc in read_before files b r (subst (λ (y : Reason). AreRead files (Err y)) (sym one) at)
 
 -- the images that the files were read as
-came : (files : List Bytes) (m : Merging) → HasTaken files (Ok m) → (is : List Image) × Spell is files × (m ≡ in_turn.after is)
+pub came : (files : List Bytes) (m : Merging) → HasTaken files (Ok m) → (is : List Image) × Spell is files × (m ≡ in_turn.after is)
 came files m h = elim h.some [ inl bad ↦ absurd (cc) | inr (read, at, same) ↦ of_read read at same ]
   where
     of_read : (read : Reading) → AreRead files read → Ok m ≡ kept_of read → (is : List Image) × Spell is files × (m ≡ in_turn.after is)
     of_read (Ok is) at same = (is, at, cc)
     of_read (Err x) at same = absurd (cc)
 
-same_after : (m : Merging) (is : List Image) → (Ok m ≡ kept_of (Ok is)) ⊎ (Ok m ≡ Err reason.NoMemory) → m ≡ in_turn.after is
+pub same_after : (m : Merging) (is : List Image) → (Ok m ≡ kept_of (Ok is)) ⊎ (Ok m ≡ Err reason.NoMemory) → m ≡ in_turn.after is
 same_after m is (inl same) = cc
 same_after m is (inr bad) = absurd (cc)
 
-never_refused : (m : Merging) (x : Reason) → (Ok m ≡ kept_of (Err x)) ⊎ (Ok m ≡ Err reason.NoMemory) → ⊥
+pub never_refused : (m : Merging) (x : Reason) → (Ok m ≡ kept_of (Err x)) ⊎ (Ok m ≡ Err reason.NoMemory) → ⊥
 never_refused m x (inl bad) = cc
 never_refused m x (inr bad) = cc
+
+-- the files of which one was refused, or there was no memory
+pub came_refused : (files : List Bytes) (r : Reason) → HasTaken files (Err r) → (r ≡ reason.NoMemory) ⊎ AreRead files (Err r)
+came_refused files r h = elim h.some [ inl none ↦ inl (cc) | inr (read, at, same) ↦ inr (of_read read at same) ]
+  where
+    of_read : (read : Reading) → AreRead files read → Err r ≡ kept_of read → AreRead files (Err r)
+    of_read (Ok is) at same = absurd (cc)
+    of_read (Err x) at same = let one : r ≡ x = cc in subst (λ (y : Reason). AreRead files (Err y)) (sym one) at
+
+pub only_came_refused : (files : List Bytes) (r : Reason) → HasTaken files (Err r) → (read : Reading) → AreRead files read → (r ≡ reason.NoMemory) ⊎ (read ≡ Err r)
+only_came_refused files r h (Ok is) at = elim (h.only (Ok is) at) [ inl bad ↦ absurd (cc) | inr none ↦ inl (cc) ]
+only_came_refused files r h (Err x) at = elim (h.only (Err x) at) [ inl same ↦ (let one : x ≡ r = cc in inr (ap (λ (y : Reason). Err y) one)) | inr none ↦ inl (cc) ]
 
 -- a file that is refused
 pub taken_unread : (files : List Bytes) (b : Bytes) (m : Merging) (e : ReadError) → HasTaken files (Ok m) →

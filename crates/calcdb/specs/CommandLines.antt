@@ -1,5 +1,5 @@
 -- What the words of a command line ask for.
-use Rattle.std.specs.Prelude.{◌≡◌, ◌⊎◌, Bool, true, false, codes, fold, List, [], ◌∷◌, map, option_map, Option, None, Some}
+use Rattle.std.specs.Prelude.{◌≡◌, ◌⊎◌, ◌&&◌, Bool, true, false, codes, fold, if◌then◌else◌, is_some, not, List, [], ◌∷◌, map, option_map, Option, None, Some}
 use Rattle.std.specs.Str.{bytes_eq}
 use Rattle.clap.specs.Faults.{fault_of}
 use Rattle.clap.specs.Kinds.{HasKind}
@@ -9,7 +9,7 @@ use Rattle.clap.specs.Simple.{App, new_app, new_rule, on_top, subcommand_of, wit
 use Rattle.clap.specs.declared.builder.action.ArgAction.TheVariants.{Append, SetTrue}
 use Rattle.clap.specs.declared.builder.value_parser.ValueParser.TheVariants.{NonEmptyString}
 use Rattle.clap.specs.declared.error.Error.{Error}
-use Rattle.clap.specs.declared.error.kind.ErrorKind.TheVariants.{MissingSubcommand}
+use Rattle.clap.specs.declared.error.kind.ErrorKind.TheVariants.{ArgumentConflict, MissingSubcommand}
 use Rattle.calcdb.specs.declared.command_line.Task.{Task}
 use Rattle.calcdb.specs.declared.command_line.Task.TheVariants.{Load, Merge, Recover, Run, Show}
 
@@ -41,11 +41,12 @@ written rule = record rule { parser = Some NonEmptyString }
 abbrev pub app : Text → List Rule → App
 app name rules = fold with_rule (new_app name) rules
 
--- `run SCRIPT [--open IMAGE] [--out DIR] [--threads] [--progress]`
+-- `run SCRIPT [--open IMAGE] [--out DIR] [--live] [--sync] [--threads] [--progress]`
 abbrev pub run_app : App
 run_app =
     app (codes "run")
-    (required (codes "SCRIPT") ∷ flagged (codes "open") (codes "IMAGE") ∷ written (flagged (codes "out") (codes "DIR")) ∷ switched (codes "threads") (codes "THREADS") ∷ progress_rule ∷ [])
+    (required (codes "SCRIPT") ∷ flagged (codes "open") (codes "IMAGE") ∷ written (flagged (codes "out") (codes "DIR")) ∷ switched (codes "live") (codes "LIVE") ∷ switched (codes "sync") (codes "SYNC")
+    ∷ switched (codes "threads") (codes "THREADS") ∷ progress_rule ∷ [])
 
 -- `load PAIRS OUT [--progress]`
 abbrev pub load_app : App
@@ -84,6 +85,7 @@ AsksFor given (Run files) =
     (given.0 ≡ codes "run") × (first_of (codes "SCRIPT") given.1 ≡ Some files.script.now)
     × (first_of (codes "IMAGE") given.1 ≡ option_map (λ s. s.now) files.opening)
     × (first_of (codes "DIR") given.1 ≡ option_map (λ s. s.now) files.folder)
+    × (files.live ≡ is_given (codes "LIVE") given.1) × (files.sync ≡ is_given (codes "SYNC") given.1)
     × (files.threads ≡ is_given (codes "THREADS") given.1) × (files.progress ≡ is_given (codes "PROGRESS") given.1)
 AsksFor given (Load pairs out progress) =
     (given.0 ≡ codes "load") × (first_of (codes "PAIRS") given.1 ≡ Some pairs.now) × (first_of (codes "OUT") given.1 ≡ Some out.now)
@@ -106,6 +108,19 @@ AsksForNothing given = (t : Task) → AsksFor given t → ⊥
 abbrev pub IsNoTask : List Text → Type 0
 IsNoTask words = (t : Task) → IsTask words t → ⊥
 
--- why the words are refused: memory ran out, clap finds a fault of this kind, or they are no task
+-- `--live` wants a folder and no threads, and `--sync` wants it
+abbrev pub goes_together : Task → Bool
+goes_together (Run files) = if files.live then is_some files.folder && not files.threads else not files.sync
+goes_together (Load pairs out progress) = true
+goes_together (Merge out images progress) = true
+goes_together (Recover script log out images progress) = true
+goes_together (Show file) = true
+
+-- the words are a run whose options don't go together
+abbrev pub IsApart : List Text → Type 0
+IsApart words = (t : Task) × IsTask words t × (goes_together t ≡ false)
+
+-- why the words are refused: memory ran out, or clap finds a fault of this kind; or they are no task; or a run whose options don't go together
 abbrev pub IsRefused : List Text → Error → Type 0
-IsRefused words e = HasKind (fault_of calcdb_app words) e ⊎ ((kind_of e ≡ MissingSubcommand) × IsNoTask words)
+IsRefused words e =
+    HasKind (fault_of calcdb_app words) e ⊎ ((kind_of e ≡ MissingSubcommand) × IsNoTask words) ⊎ ((kind_of e ≡ ArgumentConflict) × IsApart words)

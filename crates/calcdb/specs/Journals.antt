@@ -1,5 +1,5 @@
 -- What a run gives to a journal on its way.
-use Rattle.std.specs.Prelude.{◌⊎◌, ◌≡◌, List, [], ◌∷◌, ◌++◌, Option, option_map, option_to_list, Result, Ok, Err}
+use Rattle.std.specs.Prelude.{◌⊎◌, ◌≡◌, ℕ, length, List, [], ◌∷◌, ◌++◌, Option, option_map, option_to_list, Result, Ok, Err}
 use Rattle.std.specs.Borrow.{Bor}
 use Rattle.std.specs.Io.KnownBytes.{Appends}
 use Rattle.procedure.specs.Bytes.{Bytes}
@@ -73,23 +73,23 @@ module _ (A : Type 0) where
     pub unanswered : Carried {A = A} (Carries catalog command) before new last taken
 
   -- how commands stop on the way: at a fault that isn't the journal's it has the whole log and all images; where it failed itself, a front of them with those of
-  -- the command that isn't answered
-  module _ (catalog : List Procedure) (commands : List (Command (List Bytes))) (first core : CoreView) (old new : Option Bytes) (Has Front : Taken → Type 0) where
+  -- the command that isn't answered, and at least the records of those that are
+  module _ (catalog : List Procedure) (commands : List (Command (List Bytes))) (first core : CoreView) (old new : Option Bytes) (Has : Taken → Type 0) (Front : Taken → ℕ → Type 0) where
     abbrev pub StopsIn : {F : Type 0} → Stop F → Type 0
     StopsIn (stop.Fault f) = (text : Bytes) × (run : HasRun A catalog commands first core text) × Sent (Err f) old new text × Has (taken_of core run.images)
-    StopsIn (stop.Journal e) = (text : Bytes) × (cut : HasLeftOff catalog commands first core text) × Appends old new text × Front (taken_of core (cut.images ++ cut.taken))
+    StopsIn (stop.Journal e) = (text : Bytes) × (cut : HasLeftOff catalog commands first core text) × Appends old new text × Front (taken_of core (cut.images ++ cut.taken)) (length cut.before.log)
 
   -- and how a run of them stops: the journal may fail before the first command too
-  module _ (catalog : List Procedure) (commands : List (Command (List Bytes))) (first : CoreView) (old new : Option Bytes) (Has Front : Taken → Type 0) where
+  module _ (catalog : List Procedure) (commands : List (Command (List Bytes))) (first : CoreView) (old new : Option Bytes) (Has : Taken → Type 0) (Front : Taken → ℕ → Type 0) where
     abbrev pub StopsFrom : {F : Type 0} → Stop F → Type 0
     StopsFrom {F} (stop.Fault f) = (core : CoreView) × StopsIn catalog commands first core old new Has Front {F = F} (stop.Fault f)
-    StopsFrom {F} (stop.Journal e) = (Appends old new [] × Front (taken_of first [])) ⊎ ((core : CoreView) × StopsIn catalog commands first core old new Has Front {F = F} (stop.Journal e))
+    StopsFrom {F} (stop.Journal e) = (Appends old new [] × Front (taken_of first []) 0) ⊎ ((core : CoreView) × StopsIn catalog commands first core old new Has Front {F = F} (stop.Journal e))
 
-  module _ (script : Schedule) (opening : Image) (old new : Option Bytes) (Has Front : Taken → Type 0) where
+  module _ (script : Schedule) (opening : Image) (old new : Option Bytes) (Has : Taken → Type 0) (Front : Taken → ℕ → Type 0) where
     -- and that of a script, once its core is opened
     abbrev pub StopsKept : {F : Type 0} → Stop F → Type 0
     StopsKept s = (first : CoreView) × IsOpened script.catalog opening first × StopsFrom script.catalog script.commands first old new Has Front s
 
   -- how a run's journal is left: as it was, where no core was opened
-  abbrev pub LeavesJournal : {F : Type 0} → Result Schedule ScriptFault → Image → Option Bytes → Option Bytes → (Same : Type 0) (Has Front : Taken → Type 0) → Stop F → Type 0
+  abbrev pub LeavesJournal : {F : Type 0} → Result Schedule ScriptFault → Image → Option Bytes → Option Bytes → (Same : Type 0) (Has : Taken → Type 0) (Front : Taken → ℕ → Type 0) → Stop F → Type 0
   LeavesJournal says opening old new Same Has Front s = Same ⊎ ((script : Schedule) × (says ≡ Ok script) × StopsKept script opening old new Has Front s)

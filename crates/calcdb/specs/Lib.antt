@@ -6,6 +6,7 @@ pub mod Instructions
 pub mod Journals
 pub mod LineByLine
 pub mod Lines
+pub mod LiveRuns
 pub mod Merging
 pub mod Runs
 pub mod Scripts

@@ -1,56 +1,24 @@
 //! The command line.
 
-ghost use Rattle.std.specs.Prelude.{◌≡◌, ◌⊎◌, [], IfErr, IfOk, IsOkAnd, List, None, Some, codes, false, map, option_map};
+ghost use Rattle.std.specs.Prelude.{◌≡◌, ◌⊎◌, [], IfErr, IfOk, IsOkAnd, List, None, Some, codes, false, map, option_map, true};
 ghost use Rattle.clap.specs.Built.{AddsSubcommand};
 ghost use Rattle.clap.specs.Faults.{fault_of};
 ghost use Rattle.clap.specs.Matches.{found_of};
 ghost use Rattle.clap.specs.Simple.{App, app_of, subcommand_rows_of};
-ghost use Rattle.clap.specs.Values.{kind_of};
 ghost use Rattle.clap.specs.Walk.{Row, Text, all_of, first_of, rows_of, rule_of};
 ghost use Rattle.clap.specs.declared.builder.command.Command.TheViews.{out-Command};
-ghost use Rattle.clap.specs.declared.error.kind.ErrorKind.TheVariants.{MissingSubcommand};
+ghost use Rattle.clap.specs.Values.{kind_of};
+ghost use Rattle.clap.specs.declared.error.kind.ErrorKind.TheVariants.{ArgumentConflict, MissingSubcommand};
 ghost use Rattle.calcdb.specs.CommandLines as spec;
 ghost use Rattle.calcdb.specs.declared.command_line.Unasked.TheVariants as unasked;
-ghost use Rattle.calcdb.specs.CommandLines.{AsksFor, AsksForNothing, IsRefused, IsTask, calcdb_app, load_app, merge_app, recover_app, run_app, show_app};
+ghost use Rattle.calcdb.specs.CommandLines.{AsksFor, AsksForNothing, IsRefused, IsTask, calcdb_app, goes_together, load_app, merge_app, recover_app, run_app, show_app};
 
+use crate::help_notes::{LOAD_NOTES, MERGE_NOTES, NOTES, RECOVER_NOTES, RUN_NOTES, SHOW_NOTES};
 use clap::builder::ValueParser;
 use clap::error::ErrorKind;
 use clap::{Arg, ArgAction, ArgMatches, Command, Error};
 use std::alloc::{AllocError, Global};
 use std::convert::AsStr;
-
-/// What stands at the end of the program's help.
-const NOTES: &str = "\
-Statuses:
-  0  done; a script's own refusals are answers
-  1  an input is faulty or refused, a file can't be read or written, or there is no memory
-  2  the command line is faulty
-
-As SCRIPT or PAIRS, - is standard input; a file of this name is ./-. With --progress, long work says on
-standard error how far it is, at most ten times a second.
-
-A file that is made takes its name when it is whole, and replaces what has the name. docs/FORMATS.md has
-the language of scripts, and the bytes of images and logs.";
-
-const RUN_NOTES: &str = "\
-DIR must be there. At the end of the run it gets 0.img, the opening, N.img of each image that the script
-took, and log. Images of an earlier run stay, so use an empty folder.
-
-Example: calcdb run bank.calc --open opening.img --out bank";
-
-const LOAD_NOTES: &str = "\
-Each line of PAIRS has a key and its value: #17 is a number, 'text the bytes of a text, x00ff bytes.
-
-Example: calcdb load pairs.txt opening.img";
-
-const MERGE_NOTES: &str = "Example: calcdb merge merged.img 1.img 2.img 3.img";
-
-const RECOVER_NOTES: &str = "\
-LOG may be cut off anywhere: its whole records count. The image is one to open the next run with.
-
-Example: calcdb recover bank.calc bank/log opening.img bank/1.img bank/2.img";
-
-const SHOW_NOTES: &str = "Example: calcdb show bank/log";
 
 /// The files of a run.
 #[derive(Clone, Copy, Debug)]
@@ -60,6 +28,10 @@ pub(crate) struct RunFiles<'a> {
     pub opening: Option<&'a str>,
     /// The folder for the images and the log.
     pub folder: Option<&'a str>,
+    /// Whether that is kept up while the script runs.
+    pub live: bool,
+    /// Whether its log is on disk before a command is answered.
+    pub sync: bool,
     /// Whether it is run in threads.
     pub threads: bool,
     pub progress: bool,
@@ -98,6 +70,17 @@ pub(crate) enum Task<'a> {
 }
 
 impl Task<'_> {
+    /// Whether the options of a run go together.
+    fn goes_together(&self) -> bool
+        ensures { result ≡ goes_together self.now }
+    {
+        match self {
+            Task::Run(files) if files.live => files.folder.is_some() && !files.threads,
+            Task::Run(files) => !files.sync,
+            _ => true,
+        }
+    }
+
     /// Whether it is to be said how far the work is.
     pub(crate) fn tells(&self) -> bool {
         match self {
@@ -180,6 +163,13 @@ fn described_run<'a>(alloc: Global) -> Result<Command<'a>, AllocError>
         ))?
         .arg(flagged(alloc, "open", "IMAGE", "the image to open from"))?
         .arg(written(flagged(alloc, "out", "DIR", "the folder for the images and the log")))?
+        .arg(switched(alloc, "live", "LIVE", "keeps DIR up while it runs"))?
+        .arg(switched(
+            alloc,
+            "sync",
+            "SYNC",
+            "has the log on disk before each answer",
+        ))?
         .arg(switched(alloc, "threads", "THREADS", "runs it in threads"))?
         .arg(progress_flag(alloc))
 }
@@ -338,6 +328,8 @@ fn asked_run<'a>(given: &ArgMatches<'a>) -> Result<Task<'a>, Unasked>
         script: given_once(given, "SCRIPT")?,
         opening: given_perhaps(given, "IMAGE"),
         folder: given_perhaps(given, "DIR"),
+        live: is_given(given, "LIVE"),
+        sync: is_given(given, "SYNC"),
         threads: is_given(given, "THREADS"),
         progress: is_given(given, "PROGRESS"),
     }))
@@ -427,6 +419,16 @@ fn refused<'a>(program: &mut Command<'a>, why: Unasked) -> Result<Error, AllocEr
     }
 }
 
+/// Clap's error where the options of a run don't go together.
+fn apart<'a>(program: &mut Command<'a>) -> Result<Error, AllocError>
+    ensures { IfOk result (λ e. kind_of e ≡ ArgumentConflict) }
+{
+    program.error(
+        ErrorKind::ArgumentConflict,
+        "--live needs --out and goes without --threads, and --sync needs --live",
+    )
+}
+
 /// What the words ask the program's command for.
 #[tactic(auto, using(crate::proofs::CommandLines::commands_are_simple, crate::proofs::CommandLines::commands_are_free))]
 fn job_of<'a, S: AsStr>(
@@ -436,12 +438,14 @@ fn job_of<'a, S: AsStr>(
 ) -> Result<Task<'a>, Error>
     requires { app_of program.old ≡ calcdb_app }
     ensures task { IfOk result (λ t. IsTask (map S.text words.entry.now) t) }
+    ensures together { IfOk result (λ t. goes_together t ≡ true) }
     ensures faultless { IfOk result (λ _. fault_of calcdb_app (map S.text words.entry.now) ≡ []) }
     ensures refused { IfErr result (IsRefused (map S.text words.entry.now)) }
 {
     let asked = asked(alloc, &program.try_get_matches_from_mut(words)?);
     match asked {
-        Ok(task) => Ok(task),
+        Ok(task) if task.goes_together() => Ok(task),
+        Ok(_) => Err(apart(program)?),
         Err(why) => Err(refused(program, why)?),
     }
 }
@@ -450,6 +454,7 @@ fn job_of<'a, S: AsStr>(
 /// for a text that was asked for, as help.
 pub(crate) fn job<'a, S: AsStr>(alloc: Global, words: &'a [S]) -> Result<Task<'a>, Error>
     ensures task { IfOk result (λ t. IsTask (map S.text words.entry.now) t) }
+    ensures together { IfOk result (λ t. goes_together t ≡ true) }
     ensures faultless { IfOk result (λ _. fault_of calcdb_app (map S.text words.entry.now) ≡ []) }
     ensures refused { IfErr result (IsRefused (map S.text words.entry.now)) }
 {

@@ -46,8 +46,9 @@ pub(crate) fn refuse_script<W: Write, A: Allocator + Clone>(
 }
 
 /// Carries out commands on a core, which is left with the images that they took.
-fn run_on<J: Journal<A>, W: Write, A: Allocator + Copy>(
+fn run_on<J: Journal<R, A>, R, W: Write, A: Allocator + Copy>(
     alloc: A,
+    rt: &R,
     journal: &mut J,
     writer: &mut W,
     mut core: Core<A>,
@@ -57,7 +58,7 @@ fn run_on<J: Journal<A>, W: Write, A: Allocator + Copy>(
     ensures kept { (start : J) → J.Has start journal.old (taken_of core []) → IfOk result (λ r. J.Has start journal.new (taken_of r.core r.images.items)) }
     ensures err { (start : J) → J.Has start journal.old (taken_of core []) → IfErr result (λ s. (new : CoreView) × StopsIn A core.catalog commands.items core new (W.contents writer.old) (W.contents writer.new) (J.Has start journal.new) (J.HasFront start journal.new) s) }
 {
-    match run_commands(alloc, journal, &mut core, writer, commands) {
+    match run_commands(alloc, rt, journal, &mut core, writer, commands) {
         Ok(images) => Ok(Ran { core, images }),
         Err(stop) => {
             drop(core);
@@ -68,8 +69,9 @@ fn run_on<J: Journal<A>, W: Write, A: Allocator + Copy>(
 
 /// Carries out commands on a core that was just opened, of which the journal has the opening before the first
 /// command.
-fn run_begun<J: Journal<A>, W: Write, A: Allocator + Copy>(
+fn run_begun<J: Journal<R, A>, R, W: Write, A: Allocator + Copy>(
     alloc: A,
+    rt: &R,
     journal: &mut J,
     writer: &mut W,
     core: Core<A>,
@@ -80,15 +82,16 @@ fn run_begun<J: Journal<A>, W: Write, A: Allocator + Copy>(
     ensures kept { IfOk result (λ r. J.Has journal.old journal.new (taken_of r.core r.images.items)) }
     ensures err { IfErr result (λ s. StopsFrom A core.catalog commands.items core (W.contents writer.old) (W.contents writer.new) (J.Has journal.old journal.new) (J.HasFront journal.old journal.new) s) }
 {
-    match journal.open(alloc, &core) {
-        Ok(()) => run_on(alloc, journal, writer, core, commands),
+    match journal.open(alloc, rt, &core) {
+        Ok(()) => run_on(alloc, rt, journal, writer, core, commands),
         Err(failure) => Err(Stop::Journal(failure)),
     }
 }
 
 /// Carries out a script on a core that is opened for it.
-fn run_opened<J: Journal<A>, W: Write, A: Allocator + Copy>(
+fn run_opened<J: Journal<R, A>, R, W: Write, A: Allocator + Copy>(
     alloc: A,
+    rt: &R,
     journal: &mut J,
     writer: &mut W,
     script: Schedule<A>,
@@ -101,15 +104,16 @@ fn run_opened<J: Journal<A>, W: Write, A: Allocator + Copy>(
 {
     let Script { catalog, commands } = script;
     match Core::open(alloc, catalog, opening) {
-        Ok(core) => run_begun(alloc, journal, writer, core, commands.into_vec()),
+        Ok(core) => run_begun(alloc, rt, journal, writer, core, commands.into_vec()),
         // The opening is one, so memory was wanting.
         Err(_) => Err(Stop::Fault(Fault::NoMemory)),
     }
 }
 
 /// Checks a text and carries it out.
-fn run_text<J: Journal<A>, W: Write, A: Allocator + Copy>(
+fn run_text<J: Journal<R, A>, R, W: Write, A: Allocator + Copy>(
     alloc: A,
+    rt: &R,
     journal: &mut J,
     writer: &mut W,
     text: &[u8],
@@ -122,7 +126,7 @@ fn run_text<J: Journal<A>, W: Write, A: Allocator + Copy>(
     ensures stopped { IfErr result (LeavesJournal A (schedule_of text.now) opening (W.contents writer.old) (W.contents writer.new) (journal.new ≡ journal.old) (J.Has journal.old journal.new) (J.HasFront journal.old journal.new)) }
 {
     match read_schedule(alloc, text) {
-        Ok(script) => run_opened(alloc, journal, writer, script, opening),
+        Ok(script) => run_opened(alloc, rt, journal, writer, script, opening),
         Err(fault) => Err(Stop::Fault(refuse_script(alloc, writer, fault))),
     }
 }
@@ -132,22 +136,24 @@ fn run_text<J: Journal<A>, W: Write, A: Allocator + Copy>(
 /// where one of them is faulty, one line says so and nothing else is written. A read or write that fails,
 /// by an interruption too, and a write of no byte end the run. A journal has what the core was opened with
 /// before the first command, and what each command adds before its answer; where it fails the run ends.
-pub(crate) fn run_kept<J: Journal<A>, R: Read, W: Write, A: Allocator + Copy>(
+pub(crate) fn run_kept<J: Journal<R, A>, R, I: Read, W: Write, A: Allocator + Copy>(
     alloc: A,
+    rt: &R,
     journal: &mut J,
-    reader: &mut R,
+    reader: &mut I,
     writer: &mut W,
     opening: Image<A>,
 ) -> Result<Ran<A>, Stop<J::Failure>>
     // Where the reader tells its bytes: all of the script was carried out, its answers written, and the images
     // are those that it took.
-    ensures run { IfOk result (λ r. (source : Bytes) → R.remaining reader.old ≡ Some source → (text : Bytes) × RunsTo A (schedule_of source) opening r.core text r.images.items × Appends (W.contents writer.old) (W.contents writer.new) text) }
+    ensures run { IfOk result (λ r. (source : Bytes) → I.remaining reader.old ≡ Some source → (text : Bytes) × RunsTo A (schedule_of source) opening r.core text r.images.items × Appends (W.contents writer.old) (W.contents writer.new) text) }
     // And else the one line of the fault, or a beginning of the answers.
-    ensures fault { IfErr result (IfFault (λ f. (source : Bytes) → R.remaining reader.old ≡ Some source → EndsRun A (schedule_of source) opening (W.contents writer.old) (W.contents writer.new) f)) }
+    ensures fault { IfErr result (IfFault (λ f. (source : Bytes) → I.remaining reader.old ≡ Some source → EndsRun A (schedule_of source) opening (W.contents writer.old) (W.contents writer.new) f)) }
     // The journal has the whole log and all images.
     ensures kept { IfOk result (λ r. J.Has journal.old journal.new (taken_of r.core r.images.items)) }
-    // Of a run that stops too; of one that the journal stops a front, and the command is not answered.
-    ensures stopped { IfErr result (λ s. (source : Bytes) → R.remaining reader.old ≡ Some source → LeavesJournal A (schedule_of source) opening (W.contents writer.old) (W.contents writer.new) (journal.new ≡ journal.old) (J.Has journal.old journal.new) (J.HasFront journal.old journal.new) s) }
+    // Of a run that stops too; of one that the journal stops a front, with each record of the commands that were
+    // answered, and this one is not.
+    ensures stopped { IfErr result (λ s. (source : Bytes) → I.remaining reader.old ≡ Some source → LeavesJournal A (schedule_of source) opening (W.contents writer.old) (W.contents writer.new) (journal.new ≡ journal.old) (J.Has journal.old journal.new) (J.HasFront journal.old journal.new) s) }
 {
     if !opening.is_opening() {
         let refused = Fault::Refused(Reason::NotAnOpening);
@@ -158,23 +164,23 @@ pub(crate) fn run_kept<J: Journal<A>, R: Read, W: Write, A: Allocator + Copy>(
         Err(Unread::ReadFault) => return Err(Stop::Fault(Fault::Read)),
         Err(Unread::NoMemory) => return Err(Stop::Fault(Fault::NoMemory)),
     };
-    run_text(alloc, journal, writer, text.as_slice(), opening)
+    run_text(alloc, rt, journal, writer, text.as_slice(), opening)
 }
 
 /// Runs a script as `run_kept` does, with no journal.
-pub(crate) fn run_script<R: Read, W: Write, A: Allocator + Copy>(
+pub(crate) fn run_script<I: Read, W: Write, A: Allocator + Copy>(
     alloc: A,
-    reader: &mut R,
+    reader: &mut I,
     writer: &mut W,
     opening: Image<A>,
 ) -> Result<Ran<A>, Fault>
     // Where the reader tells its bytes: all of the script was carried out, its answers written, and the images
     // are those that it took.
-    ensures run { IfOk result (λ r. (source : Bytes) → R.remaining reader.old ≡ Some source → (text : Bytes) × RunsTo A (schedule_of source) opening r.core text r.images.items × Appends (W.contents writer.old) (W.contents writer.new) text) }
+    ensures run { IfOk result (λ r. (source : Bytes) → I.remaining reader.old ≡ Some source → (text : Bytes) × RunsTo A (schedule_of source) opening r.core text r.images.items × Appends (W.contents writer.old) (W.contents writer.new) text) }
     // And else the one line of the fault, or a beginning of the answers.
-    ensures fault { IfErr result (λ f. (source : Bytes) → R.remaining reader.old ≡ Some source → EndsRun A (schedule_of source) opening (W.contents writer.old) (W.contents writer.new) f) }
+    ensures fault { IfErr result (λ f. (source : Bytes) → I.remaining reader.old ≡ Some source → EndsRun A (schedule_of source) opening (W.contents writer.old) (W.contents writer.new) f) }
 {
-    match run_kept(alloc, &mut NoJournal, reader, writer, opening) {
+    match run_kept(alloc, &(), &mut NoJournal, reader, writer, opening) {
         Ok(ran) => Ok(ran),
         Err(Stop::Fault(fault)) => Err(fault),
         Err(Stop::Journal(never)) => match never {},

@@ -2,7 +2,6 @@
 
 use crate::faults::failures::{Failure, OutFile};
 use crate::new_files::begin;
-use crate::progress::{CountedFiles, Progress};
 use image::{Image, seal_to};
 use std::alloc::Allocator;
 use std::fs;
@@ -89,24 +88,6 @@ where
         Ok(mut file) => read_whole(alloc, &mut file, name),
         Err(_) => Err(Failure::CannotRead(name)),
     }
-}
-
-/// All that each of the files has, which are read in their order and counted.
-pub(crate) fn read_files<'a, R: Files, P: Progress + Drop, A: Allocator + Copy>(
-    alloc: A,
-    rt: &R,
-    names: &[&'a str],
-    counted: &mut CountedFiles<P>,
-) -> Result<Vec<Vec<u8, A>, A>, Failure<'a>>
-where
-    R::File: Drop,
-{
-    let mut files = Vec::new(alloc);
-    for name in names {
-        files.push(read_file(alloc, rt, name)?)?;
-        counted.add_one();
-    }
-    Ok(files)
 }
 
 /// Sees that what was written is out; else it is this failure.

@@ -26,10 +26,10 @@ impl<F> From<Fault> for Stop<F> {
     }
 }
 
-/// A journal of a run. It has what each command adds to the log, and the image that it takes, before the
-/// command is answered.
-pub(crate) trait Journal<A: Allocator> {
-    ghost use Rattle.std.specs.Prelude.{◌≡◌, [], OnErr, OnOk};
+/// A journal of a run, kept by what a runtime gives. It has what each command adds to the log, and the image that
+/// it takes, before the command is answered.
+pub(crate) trait Journal<R, A: Allocator> {
+    ghost use Rattle.std.specs.Prelude.{◌≡◌, ℕ, [], OnErr, OnOk, length};
     ghost use Rattle.calcdb.specs.Journals.{Taken, images_given, taken_of, with_more};
 
     type Failure;
@@ -37,43 +37,45 @@ pub(crate) trait Journal<A: Allocator> {
     /// It has taken all of this since the start.
     ghost Has: { (start now : Self) → Taken → Type 0 };
 
-    /// It has failed, and a front of this is all that it has taken since the start.
-    ghost HasFront: { (start now : Self) → Taken → Type 0 };
+    /// It has failed, and a front of this is all that it has taken since the start, so many records at least.
+    ghost HasFront: { (start now : Self) → Taken → (least : ℕ) → Type 0 };
 
     /// Begins with what a core was opened with.
-    fn open(&mut self, alloc: A, core: &Core<A>) -> Result<(), Self::Failure>
+    fn open(&mut self, alloc: A, rt: &R, core: &Core<A>) -> Result<(), Self::Failure>
         ensures ok { core.now.log ≡ [] → OnOk result (Has self.old self.new (taken_of core.now [])) }
-        ensures err { OnErr result (HasFront self.old self.new (taken_of core.now [])) };
+        ensures err { OnErr result (HasFront self.old self.new (taken_of core.now []) 0) };
 
     /// Takes the records and the image that a command added.
     fn take(
         &mut self,
         alloc: A,
+        rt: &R,
         records: &[Record<A>],
         image: Option<&Image<A>>,
     ) -> Result<(), Self::Failure>
         ensures ok { (start : Self) (t : Taken) → Has start self.old t → OnOk result (Has start self.new (with_more t records.now (images_given image.entry))) }
-        ensures err { (start : Self) (t : Taken) → Has start self.old t → OnErr result (HasFront start self.new (with_more t records.now (images_given image.entry))) };
+        ensures err { (start : Self) (t : Taken) → Has start self.old t → OnErr result (HasFront start self.new (with_more t records.now (images_given image.entry)) (length t.records)) };
 }
 
 /// The journal of a run that keeps none.
 #[derive(Clone, Copy)]
 pub(crate) struct NoJournal;
 
-impl<A: Allocator> Journal<A> for NoJournal {
+impl<R, A: Allocator> Journal<R, A> for NoJournal {
     type Failure = Infallible;
 
     ghost Has = { λ _ _ _. Unit {0} };
 
-    ghost HasFront = { λ _ _ _. Unit {0} };
+    ghost HasFront = { λ _ _ _ _. Unit {0} };
 
-    fn open(&mut self, _alloc: A, _core: &Core<A>) -> Result<(), Infallible> {
+    fn open(&mut self, _alloc: A, _rt: &R, _core: &Core<A>) -> Result<(), Infallible> {
         Ok(())
     }
 
     fn take(
         &mut self,
         _alloc: A,
+        _rt: &R,
         _records: &[Record<A>],
         _image: Option<&Image<A>>,
     ) -> Result<(), Infallible> {

@@ -4,7 +4,7 @@
 //! The definitions are in `specs/`: the text of a script (`Lines`, `LineByLine`, `Values`,
 //! `Instructions`, `Preambles`, `Commands`, `ThreadCommands`, `Scripts`), the text of answers (`Output`,
 //! `Reasons`), what commands do to a core (`Runs`), how a run ends (`Outcomes`), what a journal has of it
-//! (`Journals`), the image of a text of pairs (`Pairs`), what files of images say, merged and recovered
+//! (`Journals`), its folder that is kept up (`LiveRuns`), the image of a text of pairs (`Pairs`), what files of images say, merged and recovered
 //! with a log (`ImageFiles`, `Merging`, `Recovering`, `OwnFiles`), what a file prints (`Showing`), how
 //! these commands end (`Refusing`), the files that a run leaves (`RunFiles`), the statuses and the fixed
 //! lines of standard error (`Failures`), and the command line (`CommandLines`).
@@ -17,12 +17,14 @@ mod digesting;
 mod engine;
 mod faults;
 mod files;
-mod image_files;
+mod help_notes;
 mod instructions;
 mod journals;
 mod laws;
 mod line_by_line;
 mod lines;
+mod live_files;
+mod live_runs;
 mod looking;
 mod merge_files;
 mod new_files;

@@ -31,7 +31,7 @@ enum Target<A: Allocator> {
 /// The bytes of a file that is being made.
 #[derive(Drop)]
 pub(crate) struct NewFile<F: Write + Drop, A: Allocator> {
-    bytes: BufWriter<F, A>,
+    pub bytes: BufWriter<F, A>,
 }
 
 /// The name that a file takes when it is made.
@@ -46,6 +46,19 @@ pub(crate) struct NewName<'a, A: Allocator> {
 struct Renaming<A: Allocator> {
     beside: String<A>,
     target: String<A>,
+}
+
+impl<A: Allocator> Renaming<A> {
+    /// Gives the file its name where it is on disk, and else removes it: whether it has its name.
+    fn end<R: Files>(&self, rt: &R, is_on_disk: bool) -> bool {
+        let (beside, target) = (self.beside.as_str(), self.target.as_str());
+        if is_on_disk && fs::rename(rt, beside, target).is_ok() {
+            sync_folder(rt, folder_of(target));
+            return true;
+        }
+        let _ = fs::remove_file(rt, beside);
+        false
+    }
 }
 
 impl<F: Write + Drop, A: Allocator> Write for NewFile<F, A> {
@@ -127,7 +140,7 @@ where
 }
 
 /// A file that gets its bytes many at once.
-fn gathering<'a, F: Write + Drop, A: Allocator>(
+pub(crate) fn gathering<'a, F: Write + Drop, A: Allocator>(
     alloc: A,
     file: F,
 ) -> Result<NewFile<F, A>, Failure<'a>> {
@@ -150,16 +163,44 @@ pub(crate) fn begin<'a, R: Files, A: Allocator + Copy>(
 where
     R::File: Drop,
 {
-    let (target, permissions) = match target_of(alloc, rt, name)? {
-        Target::InPlace(path) => {
-            let Ok(file) = fs::create(rt, path.as_str()) else {
-                return Err(Failure::CannotWrite(name));
-            };
-            let renaming = None;
-            return Ok((NewName { name, renaming }, gathering(alloc, file)?));
+    match target_of(alloc, rt, name)? {
+        Target::InPlace(path) => begin_in_place(alloc, rt, name, path.as_str()),
+        Target::Replaced(target, permissions) => {
+            begin_beside(alloc, rt, name, target, permissions)
         }
-        Target::Replaced(target, permissions) => (target, permissions),
-    };
+    }
+}
+
+/// Begins a file whose bytes go where its name leads.
+fn begin_in_place<'a, R: Files, A: Allocator + Copy>(
+    alloc: A,
+    rt: &R,
+    name: OutFile<'a>,
+    path: &str,
+) -> Result<Begun<'a, R::File, A>, Failure<'a>>
+where
+    R::File: Drop,
+{
+    match fs::create(rt, path) {
+        Ok(file) => {
+            let renaming = None;
+            Ok((NewName { name, renaming }, gathering(alloc, file)?))
+        }
+        Err(_) => Err(Failure::CannotWrite(name)),
+    }
+}
+
+/// Begins a file whose bytes go to a new one in the folder of its target, with these permissions.
+fn begin_beside<'a, R: Files, A: Allocator + Copy>(
+    alloc: A,
+    rt: &R,
+    name: OutFile<'a>,
+    target: String<A>,
+    permissions: Option<Permissions>,
+) -> Result<Begun<'a, R::File, A>, Failure<'a>>
+where
+    R::File: Drop,
+{
     let (file, beside) = make_beside(alloc, rt, name, target.as_str())?;
     let renaming = Some(Renaming { beside, target });
     let new = NewName { name, renaming };
@@ -190,7 +231,7 @@ fn permitted<'a, F: OpenFile + Write + Drop, A: Allocator>(
 }
 
 /// Sees that the names of a folder are on disk, where the system lets it.
-fn sync_folder<R: Files>(rt: &R, folder: &str) {
+pub(crate) fn sync_folder<R: Files>(rt: &R, folder: &str) {
     let folder = if folder.is_empty() { "." } else { folder };
     if let Ok(opened) = fs::open(rt, folder) {
         let _ = opened.sync_all();
@@ -213,21 +254,18 @@ impl<'a, A: Allocator> NewName<'a, A> {
     ) -> Result<(), Failure<'a>> {
         let NewName { name, renaming } = self;
         let is_out = file.flush().is_ok();
-        let Some(Renaming { beside, target }) = renaming else {
-            return if is_out {
-                Ok(())
-            } else {
-                Err(Failure::CannotWrite(name))
-            };
+        let is_made = match renaming {
+            Some(renaming) => {
+                let is_on_disk = is_out && file.bytes.get_ref().sync_all().is_ok();
+                renaming.end(rt, is_on_disk)
+            }
+            None => is_out,
         };
-        let (beside, target) = (beside.as_str(), target.as_str());
-        let is_on_disk = is_out && file.bytes.get_ref().sync_all().is_ok();
-        if is_on_disk && fs::rename(rt, beside, target).is_ok() {
-            sync_folder(rt, folder_of(target));
-            return Ok(());
+        if is_made {
+            Ok(())
+        } else {
+            Err(Failure::CannotWrite(name))
         }
-        let _ = fs::remove_file(rt, beside);
-        Err(Failure::CannotWrite(name))
     }
 
     /// Ends a file: it is finished where all was written to it, and else removed.

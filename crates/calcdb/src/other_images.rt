@@ -44,6 +44,21 @@ fn writes<A: Allocator>(images: &[Image<A>], number: u64) -> bool {
             .is_ok()
 }
 
+impl<'a> OtherImages<'a> {
+    /// Those that were found, and one with this number.
+    fn with(found: Option<Self>, folder: &'a str, number: u64) -> Self {
+        let (least, more) = match found {
+            Some(others) => (others.least.min(number), others.more.saturating_add(1)),
+            None => (number, 0),
+        };
+        OtherImages {
+            folder,
+            least,
+            more,
+        }
+    }
+}
+
 /// The images of another run in the folder that a run with these images was written into; none where the folder
 /// can't be read.
 pub(crate) fn other_images<'a, R: Files + Alloc, A: Allocator>(
@@ -51,31 +66,27 @@ pub(crate) fn other_images<'a, R: Files + Alloc, A: Allocator>(
     folder: &'a str,
     images: &[Image<A>],
 ) -> Option<OtherImages<'a>> {
-    let mut found: Option<OtherImages<'a>> = None;
+    let mut found = None;
     for entry in fs::read_dir(&rt, folder).ok()? {
-        let entry = entry.ok()?;
-        if let Some(number) = number_of_name(entry.file_name())
+        if let Some(number) = number_of_name(entry.ok()?.file_name())
             && !writes(images, number)
         {
-            found = Some(match found {
-                Some(
-                    OtherImages {
-                        folder,
-                        least,
-                        more,
-                    },
-                ) => OtherImages {
-                    folder,
-                    least: least.min(number),
-                    more: more.saturating_add(1),
-                },
-                None => OtherImages {
-                    folder,
-                    least: number,
-                    more: 0,
-                },
-            });
+            found = Some(OtherImages::with(found, folder, number));
         }
     }
     found
+}
+
+/// Whether a folder has an image of a run, or can't be read.
+pub(crate) fn may_have_images<R: Files + Alloc>(rt: &R, folder: &str) -> bool {
+    let Ok(entries) = fs::read_dir(&rt, folder) else {
+        return true;
+    };
+    for entry in entries {
+        match entry {
+            Ok(entry) if number_of_name(entry.file_name()).is_none() => {}
+            _ => return true,
+        }
+    }
+    false
 }

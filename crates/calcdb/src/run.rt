@@ -255,8 +255,9 @@ fn image_of<A: Allocator>(shown: &Shown<A>) -> Option<&Image<A>>
 }
 
 /// Hands a journal the records of a core's log from a place on, and the image that a command took.
-fn keep<J: Journal<A>, A: Allocator>(
+fn keep<J: Journal<R, A>, R, A: Allocator>(
     alloc: A,
+    rt: &R,
     journal: &mut J,
     core: &Core<A>,
     noted: usize,
@@ -264,15 +265,16 @@ fn keep<J: Journal<A>, A: Allocator>(
 ) -> Result<(), J::Failure>
     requires { noted ≤ length core.now.log }
     ensures ok { (start : J) (t : Taken) → J.Has start journal.old t → OnOk result (J.Has start journal.new (with_more t (drop noted core.now.log) (images_shown shown.now))) }
-    ensures err { (start : J) (t : Taken) → J.Has start journal.old t → OnErr result (J.HasFront start journal.new (with_more t (drop noted core.now.log) (images_shown shown.now))) }
+    ensures err { (start : J) (t : Taken) → J.Has start journal.old t → OnErr result (J.HasFront start journal.new (with_more t (drop noted core.now.log) (images_shown shown.now)) (length t.records)) }
 {
-    journal.take(alloc, &core.records()[noted..], image_of(shown))
+    journal.take(alloc, rt, &core.records()[noted..], image_of(shown))
 }
 
 /// Carries out a command, has the journal keep what it added, writes the line that is printed of it, and keeps
 /// the image that it took.
-fn answer<J: Journal<A>, W: Write, A: Allocator + Copy>(
+fn answer<J: Journal<R, A>, R, W: Write, A: Allocator + Copy>(
     alloc: A,
+    rt: &R,
     journal: &mut J,
     core: &mut Core<A>,
     writer: &mut W,
@@ -284,11 +286,11 @@ fn answer<J: Journal<A>, W: Write, A: Allocator + Copy>(
     ensures { (text : Bytes) × (taken : Images) × Carried {A = A} (Carries core.old.catalog command) core.old core.new text taken
         × SentUnlessUnkept result (W.contents writer.old) (W.contents writer.new) text × OnOk result (images.new.items ≡ images.old.items ++ taken)
         × ((start : J) → J.Has start journal.old (taken_of core.old images.old.items) →
-        IsKept result (J.Has start journal.new (taken_of core.new (images.old.items ++ taken))) (J.HasFront start journal.new (taken_of core.new (images.old.items ++ taken)))) }
+        IsKept result (J.Has start journal.new (taken_of core.new (images.old.items ++ taken))) (J.HasFront start journal.new (taken_of core.new (images.old.items ++ taken)) (length core.old.log))) }
 {
     let noted = core.records().len();
     let shown = carry_out(core, command);
-    match keep(alloc, journal, core, noted, &shown) {
+    match keep(alloc, rt, journal, core, noted, &shown) {
         Ok(()) => {}
         Err(failure) => return Err(Stop::Journal(failure)),
     }
@@ -302,8 +304,9 @@ fn answer<J: Journal<A>, W: Write, A: Allocator + Copy>(
 
 /// Carries out the commands, each after the line of the one before was written, and returns the images
 /// that they took, in order.
-pub(crate) fn run_commands<J: Journal<A>, W: Write, A: Allocator + Copy>(
+pub(crate) fn run_commands<J: Journal<R, A>, R, W: Write, A: Allocator + Copy>(
     alloc: A,
+    rt: &R,
     journal: &mut J,
     core: &mut Core<A>,
     writer: &mut W,
@@ -322,6 +325,7 @@ pub(crate) fn run_commands<J: Journal<A>, W: Write, A: Allocator + Copy>(
         }
         answer(
             alloc,
+            rt,
             journal,
             core,
             writer,

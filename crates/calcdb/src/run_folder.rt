@@ -59,7 +59,7 @@ pub(crate) trait RunFolder<R>: Sized {
 }
 
 /// Makes the file of an image.
-fn make_image<R, F: RunFolder<R>, A: Allocator>(
+pub(crate) fn make_image<R, F: RunFolder<R>, A: Allocator>(
     alloc: A,
     rt: &R,
     folder: &mut F,
@@ -91,7 +91,7 @@ fn make_images<R, F: RunFolder<R>, A: Allocator + Copy>(
 }
 
 /// Makes the file of the opening, and returns the digest of its bytes.
-fn make_opening<R, F: RunFolder<R>, A: Allocator>(
+pub(crate) fn make_opening<R, F: RunFolder<R>, A: Allocator>(
     alloc: A,
     rt: &R,
     folder: &mut F,

@@ -1,12 +1,14 @@
 //! What the program does for each command.
 
 use crate::command_line::{RunFiles, Task};
-use crate::engine::{Ran, run_script};
+use crate::engine::{Ran, run_kept, run_script};
 use crate::faults::failures::{Failure, OutFile};
 use crate::faults::refusals::{say_no_memory, write_fault};
 use crate::faults::subjects::{ImageFiles, Subject};
 use crate::faults::{Fault, Reason};
-use crate::files::{flush, input_of, read_file, read_files, read_input, write_image};
+use crate::files::{flush, input_of, read_file, read_input, write_image};
+use crate::journals::Stop;
+use crate::live_runs::LiveRun;
 use crate::merge_files::{Kept, before_files, end_merge, with_file};
 use crate::new_files::NewFolder;
 use crate::other_images::{OtherImages, other_images};
@@ -137,6 +139,73 @@ fn run_reader<
     }
 }
 
+/// The failure of a run by a fault.
+fn failure_of<'a>(fault: Fault, files: RunFiles<'a>) -> Failure<'a> {
+    let subject = Subject::File(refused_by(&fault, files));
+    Failure::of_fault(fault, files.script, subject)
+}
+
+/// Runs the script that a reader gives, and keeps its folder up while it goes on.
+fn run_live<'a, R: Files + Alloc, I: Read, O: Write, P: Progress + Sync, A: Allocator + Copy>(
+    alloc: A,
+    rt: &R,
+    path: &'a str,
+    files: RunFiles<'a>,
+    script: &mut I,
+    opening: Image<A>,
+    progress: Option<&P>,
+    out: &mut O,
+) -> Result<(), Failure<'a>>
+where
+    R::File: Drop,
+{
+    let mut live = LiveRun::new(NewFolder { alloc, path }, files.sync);
+    let mut lines = CountedLines::new(&mut *out, progress);
+    match run_kept(alloc, rt, &mut live, script, &mut lines, opening) {
+        Ok(ran) => {
+            drop(ran);
+            let ended = live.end(rt);
+            flush(out, Failure::CannotPrint)?;
+            ended
+        }
+        Err(Stop::Journal(failure)) => Err(failure),
+        Err(Stop::Fault(fault)) => Err(failure_of(fault, files)),
+    }
+}
+
+/// Runs the script that a reader gives, in threads where that is asked for, and writes at its end what it leaves.
+fn run_and_leave<
+    'a,
+    T: Threads + Wait + Sync,
+    R: Files + Alloc,
+    I: Read,
+    O: Write,
+    P: Progress + Sync,
+    A: Allocator + Copy + Send + Sync,
+>(
+    alloc: A,
+    threads: &T,
+    rt: &R,
+    files: RunFiles<'a>,
+    script: &mut I,
+    opening: Image<A>,
+    progress: Option<&P>,
+    out: &mut O,
+) -> Result<Option<OtherImages<'a>>, Failure<'a>>
+where
+    R::File: Drop,
+{
+    let threads = if files.threads { Some(threads) } else { None };
+    match run_reader(alloc, threads, script, opening, progress, out) {
+        Ok(ran) => {
+            let left = leave_run(alloc, rt, files.folder, &ran, out);
+            drop(ran);
+            left
+        }
+        Err(fault) => Err(failure_of(fault, files)),
+    }
+}
+
 /// Runs a script over an opening, in threads where that is asked for.
 fn run_over<
     'a,
@@ -161,17 +230,21 @@ where
 {
     let mut text = input_of(rt, files.script, stdin);
     let mut script = CountedBytes::new(&mut text, progress);
-    let threads = if files.threads { Some(threads) } else { None };
-    match run_reader(alloc, threads, &mut script, opening, progress, out) {
-        Ok(ran) => {
-            let left = leave_run(alloc, rt, files.folder, &ran, out);
-            drop(ran);
-            left
+    match files.folder {
+        Some(path) if files.live => {
+            run_live(alloc, rt, path, files, &mut script, opening, progress, out)?;
+            Ok(None)
         }
-        Err(fault) => {
-            let subject = Subject::File(refused_by(&fault, files));
-            Err(Failure::of_fault(fault, files.script, subject))
-        }
+        _ => run_and_leave(
+            alloc,
+            threads,
+            rt,
+            files,
+            &mut script,
+            opening,
+            progress,
+            out,
+        ),
     }
 }
 
@@ -247,6 +320,9 @@ where
     }
 }
 
+/// What is kept of files of images, and the name of the first that isn't merged.
+type ImagesRead<'a, A> = (Kept<A>, Option<&'a str>);
+
 /// Reads the files of images one after another, each into the merge of those before it. Of the first
 /// that isn't merged the name comes too; those after it are read all the same.
 fn read_merge<'a, R: Files, P: Progress + Drop, A: Allocator + Copy>(
@@ -254,7 +330,7 @@ fn read_merge<'a, R: Files, P: Progress + Drop, A: Allocator + Copy>(
     rt: &R,
     names: &[&'a str],
     counted: &mut CountedFiles<P>,
-) -> Result<(Kept<A>, Option<&'a str>), Failure<'a>>
+) -> Result<ImagesRead<'a, A>, Failure<'a>>
 where
     R::File: Drop,
 {
@@ -302,8 +378,8 @@ struct Sources<'a, 'b> {
     images: &'b [&'a str],
 }
 
-/// What the files of a recovery have: its script, its log and its images.
-type SourceBytes<A> = (Vec<u8, A>, Vec<u8, A>, Vec<Vec<u8, A>, A>);
+/// What the files of a recovery have: its script, its log, and its images as they were merged.
+type SourcesRead<'a, A> = (Vec<u8, A>, Vec<u8, A>, ImagesRead<'a, A>);
 
 /// Reads the files of a recovery.
 fn read_sources<'a, R: Files, I: Read, P: Progress, A: Allocator + Copy>(
@@ -312,7 +388,7 @@ fn read_sources<'a, R: Files, I: Read, P: Progress, A: Allocator + Copy>(
     sources: Sources<'a, '_>,
     stdin: &mut I,
     progress: Option<&P>,
-) -> Result<SourceBytes<A>, Failure<'a>>
+) -> Result<SourcesRead<'a, A>, Failure<'a>>
 where
     R::File: Drop,
 {
@@ -322,7 +398,7 @@ where
     files.add_one();
     let log = read_file(alloc, rt, sources.log)?;
     files.add_one();
-    let images = read_files(alloc, rt, sources.images, &mut files)?;
+    let images = read_merge(alloc, rt, sources.images, &mut files)?;
     Ok((script, log, images))
 }
 
@@ -345,19 +421,18 @@ where
         images: names,
     } = sources;
     let read = read_sources(alloc, rt, sources, stdin, progress);
-    let (script_bytes, log_bytes, read) = told(out, read)?;
-    let bytes = read.as_slice();
+    let (script_bytes, log_bytes, (kept, unread)) = told(out, read)?;
     match recover_files(
         alloc,
         script_bytes.as_slice(),
         log_bytes.as_slice(),
-        bytes,
+        kept,
         out,
     ) {
         Ok(image) => write_made(alloc, rt, &image, name, out),
         Err(fault) => {
             let images = ImageFiles { names };
-            let subject = images.recovered(alloc, &fault, (script, log), bytes);
+            let subject = images.recovered(&fault, (script, log), unread.as_ref());
             Err(Failure::of_fault(fault, script, subject))
         }
     }
@@ -401,18 +476,18 @@ pub(crate) fn do_task<
 where
     R::File: Drop,
 {
-    match task {
+    let done = match task {
         Task::Run(files) => return run_task(alloc, threads, rt, *files, stdin, progress, out),
         Task::Load {
             pairs,
             out: name,
             progress: _,
-        } => load_task(alloc, rt, pairs, name, stdin, progress, out)?,
+        } => load_task(alloc, rt, pairs, name, stdin, progress, out),
         Task::Merge {
             out: name,
             images,
             progress: _,
-        } => merge_task(alloc, rt, name, images.as_slice(), progress, out)?,
+        } => merge_task(alloc, rt, name, images.as_slice(), progress, out),
         Task::Recover {
             script,
             log,
@@ -425,9 +500,10 @@ where
                 log,
                 images: images.as_slice(),
             };
-            recover_task(alloc, rt, name, sources, stdin, progress, out)?
+            recover_task(alloc, rt, name, sources, stdin, progress, out)
         }
-        Task::Show { file } => show_task(alloc, rt, file, out)?,
-    }
+        Task::Show { file } => show_task(alloc, rt, file, out),
+    };
+    done?;
     Ok(None)
 }

@@ -19,6 +19,7 @@ mod help;
 mod kept_memory;
 mod large_tables;
 mod live_log;
+mod live_runs;
 mod made_files;
 mod many_sessions;
 mod merges;

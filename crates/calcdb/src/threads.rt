@@ -37,7 +37,7 @@ use std::thread::{self, Threads};
 use steps::Core;
 use view::{Naming, Opened, Publisher, Told, open_view};
 use workers::checkpointed::{Checkpointed, count_calls};
-use workers::{Gate, Origin, Report, run_all};
+use workers::{Gate, NotRun, Origin, Report, run_all};
 
 /// Writes the lines of a run: its calls, its images and its audit.
 fn write_ran<W: Write, A: Allocator + Copy>(
@@ -146,16 +146,21 @@ fn run_to_end<
         Ok(report) => {
             let Report {
                 core,
-                shares: _,
+                shares,
                 images,
                 checkpoints: _,
                 publisher,
                 last,
             } = report;
+            drop(shares);
             let taken = Checkpointed::from_parts(core, images);
             Ok((Ended { taken, name }, publisher, last))
         }
-        Err(_) => Err(NoMemory),
+        Err(NotRun { core, publisher }) => {
+            drop(core);
+            drop(publisher);
+            Err(NoMemory)
+        }
     }
 }
 

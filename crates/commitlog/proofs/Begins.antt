@@ -1,5 +1,5 @@
 -- A header and the records behind it.
-use Rattle.std.proofs.Common.{◌≡◌, ℕ, List, ◌++◌, length, take, drop, sym, ap, subst, ◌∙◌, append_assoc, arith}
+use Rattle.std.proofs.Common.{◌≡◌, ℕ, List, ◌++◌, length, take, drop, refl, sym, ap, subst, ◌∙◌, append_assoc, arith}
 use Rattle.std.specs.Prelude.{Result, Ok, Err}
 use Rattle.std.proofs.lemmas.List.{take-append-drop, take-take}
 use Rattle.sha2.specs.Sha256.{sha256}
@@ -13,7 +13,7 @@ use Rattle.commitlog.specs.declared.decoding.LogError.TheVariants as refused
 use Rattle.commitlog.specs.LogBytes.{magic, log_header_bytes, first_digest, records_bytes, digest_after}
 use Rattle.commitlog.specs.LogReadings.{Fronts, EndsAfter, StopsAfter, IsDamage, IsHeader, Begins, Reading, Log, NotALog, Damaged, IsReading, IsAnswer, Tells, reading_of}
 use Rattle.commitlog.specs.declared.decoding.StoredLog.{StoredLog}
-use Rattle.commitlog.proofs.OneReadings.{one_reading}
+use Rattle.commitlog.proofs.OneReadings.{no_log, one_reading}
 
 -- the first bytes are the header's
 pub header_is : (v : Version) (h : LogHeader) (bytes : Bytes) → take 8 bytes ≡ magic v → h.catalog ++ h.opening ≡ drop 8 (take 72 bytes) → log_header_bytes v h ≡ take 72 bytes
@@ -44,7 +44,7 @@ ends_so v h d rs e bytes lengths front digest told = (told.0, begins v h d rs to
 pub stops_so : (A : Type 0) (v : Version) (h : LogHeader) (d : Bytes) (e : LogError) (bytes : Bytes) → IsHeader h → log_header_bytes v h ≡ take 72 bytes → d ≡ sha256 (take 72 bytes) →
     StopsAfter v d (drop 72 bytes) e → IsAnswer {A = A} bytes (Err e)
 stops_so A v h d refused.NotALog bytes lengths front digest told = absurd told.3
-stops_so A v h d refused.NoMemory bytes lengths front digest told = tt
+stops_so A v h d refused.NoMemory bytes lengths front digest told = no_log v h told.0 told.1 bytes (begins v h d told.0 told.1 bytes lengths front digest told.2)
 stops_so A v h d (refused.Damaged i) bytes lengths front digest told =
     let first : d ≡ first_digest v h = digest ∙ ap sha256 (sym front) in
     let damage : IsDamage v (digest_after (first_digest v h) told.0) i told.1 =
@@ -58,3 +58,10 @@ tells bytes (Ok log) r a b = one_reading bytes r (reading_of log) b a
 tells bytes (Err refused.NotALog) r a b = one_reading bytes r NotALog b a
 tells bytes (Err (refused.Damaged i)) r a b = one_reading bytes r (Damaged i) b a
 tells bytes (Err refused.NoMemory) r a b = tt
+
+-- and that a text is no log, whatever the memory is
+pub tells_no_log : {A : Type 0} (bytes : Bytes) (o : Result (StoredLog A) LogError) → IsAnswer bytes o → IsReading bytes NotALog → o ≡ Err refused.NotALog
+tells_no_log bytes (Ok log) a b = absurd (cc (one_reading bytes NotALog (reading_of log) b a))
+tells_no_log bytes (Err refused.NotALog) a b = refl
+tells_no_log bytes (Err (refused.Damaged i)) a b = absurd (cc (one_reading bytes NotALog (Damaged i) b a))
+tells_no_log bytes (Err refused.NoMemory) a b = absurd (a b)

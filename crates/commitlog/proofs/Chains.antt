@@ -16,6 +16,13 @@ records_more d (x ∷ rs) r =
     ap (λ (t : Bytes). record_bytes d x ++ t) (records_more (next_digest d x) rs r)
     ∙ sym (append_assoc (record_bytes d x) (records_bytes (next_digest d x) rs) (record_bytes (digest_after (next_digest d x) rs) r))
 
+-- with more records
+pub records_on : (d : Bytes) (rs more : List Record) → records_bytes d (rs ++ more) ≡ records_bytes d rs ++ records_bytes (digest_after d rs) more
+records_on d [] more = refl
+records_on d (x ∷ rs) more =
+    ap (λ (t : Bytes). record_bytes d x ++ t) (records_on (next_digest d x) rs more)
+    ∙ sym (append_assoc (record_bytes d x) (records_bytes (next_digest d x) rs) (records_bytes (digest_after (next_digest d x) rs) more))
+
 pub digest_more : (d : Bytes) (rs : List Record) (r : Record) → digest_after d (rs ++ r ∷ []) ≡ next_digest (digest_after d rs) r
 digest_more d [] r = refl
 digest_more d (x ∷ rs) r = digest_more (next_digest d x) rs r

@@ -217,7 +217,7 @@ end_no_damage v d i rest Torn h damage =
       ]
     ]
 
-no_log : (v : Version) (h : LogHeader) (rs : List Record) (rest text : Bytes) → Begins v h rs rest text → IsReading text NotALog → ⊥
+pub no_log : (v : Version) (h : LogHeader) (rs : List Record) (rest text : Bytes) → Begins v h rs rest text → IsReading text NotALog → ⊥
 no_log v h rs rest text b none =
     let e = behind v h rs rest text b in
     let after = records_bytes (first_digest v h) rs ++ rest in

@@ -143,12 +143,12 @@ IsReading text (Damaged i) =
 abbrev pub reading_of : {A : Type 0} → StoredLog A → Reading
 reading_of log = Log log.version log.header log.records log.ending
 
--- what was answered is a reading of the text
+-- what was answered is a reading of the text; what is no log takes no memory
 abbrev pub IsAnswer : {A : Type 0} → Bytes → Result (StoredLog A) LogError → Type 0
 IsAnswer text (Ok log) = IsReading text (reading_of log)
 IsAnswer text (Err refused.NotALog) = IsReading text NotALog
 IsAnswer text (Err (refused.Damaged i)) = IsReading text (Damaged i)
-IsAnswer text (Err refused.NoMemory) = Unit {0}
+IsAnswer text (Err refused.NoMemory) = IsReading text NotALog → ⊥
 
 -- it is this one, unless memory ran out
 abbrev pub Tells : {A : Type 0} → Result (StoredLog A) LogError → Reading → Type 0

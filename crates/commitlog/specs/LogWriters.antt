@@ -3,7 +3,6 @@ use Rattle.std.specs.Prelude.{◌≡◌, [], ◌++◌, Bool, true, List, Option}
 use Rattle.std.specs.Io.KnownBytes.{Appends}
 use Rattle.sha2.specs.Hashers.{Holds256}
 use Rattle.procedure.specs.Bytes.{Bytes}
-use Rattle.procedure.specs.Streams.{IsBegun}
 use Rattle.commitlog.specs.Records.{Record}
 use Rattle.commitlog.specs.LogBytes.{digest_after, first_digest, log_bytes}
 use Rattle.commitlog.specs.Pieces.{Sends}
@@ -24,9 +23,12 @@ pub record HasSent (start : Option Bytes) (s : Sent) (h : LogHeader) (rs : List 
   pub digest : s.digest ≡ digest_after (first_digest Two h) rs
   pub sound : s.is_faulty ≡ true → ⊥
 
--- a write failed, and a front of the log of the header and the records is all that went out
-pub record HasStopped (start : Option Bytes) (s : Sent) (h : LogHeader) (rs : List Record) : Type 0 where
-  pub front : IsBegun start s.bytes (log_bytes Two h rs)
+-- a write failed: the log of the header and of some records went out, and of more records a beginning of what follows it
+pub record HasStopped (start : Option Bytes) (s : Sent) (h : LogHeader) (rs more : List Record) : Type 0 where
+  pub out : Bytes
+  pub left : Bytes
+  pub parts : log_bytes Two h (rs ++ more) ≡ log_bytes Two h rs ++ (out ++ left)
+  pub bytes : Appends start s.bytes (log_bytes Two h rs ++ out)
   pub faulty : s.is_faulty ≡ true
 
 -- the bytes go out, and the hasher has them too

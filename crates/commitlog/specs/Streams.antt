@@ -2,6 +2,8 @@
 use Rattle.std.specs.Prelude.{◌≡◌, Option, Result, Ok, Err, codes}
 use Rattle.std.specs.Io.KnownBytes.{Consumes, IsAtEnd}
 use Rattle.procedure.specs.Bytes.{Bytes}
+use Rattle.procedure.specs.declared.streams.Unread.{Unread}
+use Rattle.procedure.specs.declared.streams.Unread.TheVariants as unread
 use Rattle.commitlog.specs.LogReadings.{Reading, NotALog, Damaged, IsReading, reading_of}
 use Rattle.commitlog.specs.LogTexts.{log_error_text}
 use Rattle.commitlog.specs.declared.decoding.StoredLog.{StoredLog}
@@ -9,12 +11,10 @@ use Rattle.commitlog.specs.declared.decoding.LogError.TheVariants as refused
 use Rattle.commitlog.specs.declared.streams.ReadError.{ReadError}
 use Rattle.commitlog.specs.declared.streams.ReadError.TheVariants as read_refused
 
--- nothing was read to the end
-abbrev pub IsUnread : ReadError → Type 0
-IsUnread read_refused.ReadFault = Unit {0}
-IsUnread (read_refused.Log refused.NotALog) = ⊥
-IsUnread (read_refused.Log (refused.Damaged i)) = ⊥
-IsUnread (read_refused.Log refused.NoMemory) = Unit {0}
+-- a failed read stays one, and so does want of memory
+abbrev pub unread_as : Unread → ReadError
+unread_as unread.ReadFault = read_refused.ReadFault
+unread_as unread.NoMemory = read_refused.Log refused.NoMemory
 
 -- all that was read, to the end, has the reading
 abbrev pub ReadsAs : Option Bytes → Option Bytes → Reading → Type 0

@@ -137,8 +137,8 @@ impl<W: Write + Drop> LogWriter<W> {
     /// Writes a record. An error tells that a write failed, now or before.
     pub fn append<A: Allocator>(&mut self, record: &Record<A>) -> Result<(), WriteFault>
         ensures ok { (start : Option Bytes) (h : SpecHeader) (rs : List SpecRecord) → HasSent start self.old h rs → OnOk result (HasSent start self.new h (rs ++ «record».now ∷ [])) }
-        // A front of the log with this record is all that went out.
-        ensures err { (start : Option Bytes) (h : SpecHeader) (rs : List SpecRecord) → HasSent start self.old h rs → OnErr result (HasStopped start self.new h (rs ++ «record».now ∷ [])) }
+        // Those before it are there whole, and of this one a beginning.
+        ensures err { (start : Option Bytes) (h : SpecHeader) (rs : List SpecRecord) → HasSent start self.old h rs → OnErr result (HasStopped start self.new h rs («record».now ∷ [])) }
         ensures stopped { self.old.is_faulty ≡ true → IsErr result × (self.new.is_faulty ≡ true) × Keeps self.old.bytes self.new.bytes }
     {
         let digest = self.tap.send_record(&self.digest, record);
@@ -146,6 +146,17 @@ impl<W: Write + Drop> LogWriter<W> {
             return Err(WriteFault);
         }
         self.digest = digest;
+        Ok(())
+    }
+
+    /// Writes records one after another, up to the first write that fails.
+    pub fn append_all<A: Allocator>(&mut self, records: &[Record<A>]) -> Result<(), WriteFault>
+        ensures ok { (start : Option Bytes) (h : SpecHeader) (rs : List SpecRecord) → HasSent start self.old h rs → OnOk result (HasSent start self.new h (rs ++ records.now)) }
+        ensures err { (start : Option Bytes) (h : SpecHeader) (rs : List SpecRecord) → HasSent start self.old h rs → OnErr result (HasStopped start self.new h rs records.now) }
+    {
+        for record in records {
+            self.append(record)?;
+        }
         Ok(())
     }
 

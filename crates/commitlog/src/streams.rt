@@ -12,7 +12,7 @@ ghost use Rattle.commitlog.specs.LogReadings.{Damaged, IsReading, NotALog, Readi
 ghost use Rattle.commitlog.specs.declared.decoding.LogError.TheVariants as refused;
 ghost use Rattle.commitlog.specs.declared.streams.ReadError.TheVariants as read_refused;
 ghost use Rattle.procedure.specs.Streams.{IsBegun};
-ghost use Rattle.commitlog.specs.Streams.{IsAnswerFrom, IsUnread, ReadsAs, TellsFrom};
+ghost use Rattle.commitlog.specs.Streams.{IsAnswerFrom, ReadsAs, TellsFrom};
 
 use crate::decoding::{LogError, StoredLog, read_whole};
 use crate::encoding::{longest_body, write_header, write_record};
@@ -52,9 +52,10 @@ impl fmt::Display for ReadError {
 impl Error for ReadError {}
 
 impl From<Unread> for ReadError {
-    ghost use Rattle.commitlog.specs.Streams.{IsUnread};
+    ghost use Rattle.std.specs.Prelude.{◌≡◌};
+    ghost use Rattle.commitlog.specs.Streams.{unread_as};
 
-    ghost from_gives = { λ _ e. IsUnread e };
+    ghost from_gives = { λ u e. e ≡ unread_as u };
 
     fn from(unread: Unread) -> Self {
         match unread {

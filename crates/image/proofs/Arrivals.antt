@@ -6,7 +6,9 @@ use Rattle.std.proofs.lemmas.List.{append-nil}
 use Rattle.procedure.specs.Bytes.{Bytes}
 use Rattle.image.specs.Images.{Image}
 use Rattle.image.specs.Refusals.{IsAnswer}
-use Rattle.image.specs.Streams.{IsAnswerFrom, IsUnread, ReadsAs, TellsFrom}
+use Rattle.image.specs.Streams.{IsAnswerFrom, IsUnread, ReadsAs, TellsFrom, unread_as}
+use Rattle.procedure.specs.declared.streams.Unread.{Unread}
+use Rattle.procedure.specs.declared.streams.Unread.TheVariants as reading
 use Rattle.image.specs.declared.errors.ReadError.{ReadError}
 use Rattle.image.specs.declared.errors.ReadError.TheVariants as refused
 use Rattle.image.specs.declared.streams.ReadFromError.{ReadFromError}
@@ -27,6 +29,10 @@ image_of i = Ok i
 
 pub refusal_is : (e f : ReadError) → refusal_of e ≡ refusal_of f → e ≡ f
 refusal_is e f h = cc
+
+pub is_unread : (u : Unread) (e : ReadFromError) → e ≡ unread_as u → IsUnread e
+is_unread reading.ReadFault e h = inl h
+is_unread reading.NoMemory e h = inr h
 
 -- what wasn't read to the end has every answer
 pub unread : (old new : Option Bytes) (e : ReadFromError) → IsUnread e → IsAnswerFrom old new (Err e)

@@ -145,7 +145,7 @@ find_union q [] ys hy = sym (or_none (find by_bytes q ys))
 find_union q (x ∷ xs) ys hy = find_woven q x xs (find_union q xs) ys hy
 
 -- where one of the two is at its end, the other follows
-ends : (xs ys : List Entry) → (xs ≡ []) ⊎ (ys ≡ []) → union xs ys ≡ xs ++ ys
+pub ends : (xs ys : List Entry) → (xs ≡ []) ⊎ (ys ≡ []) → union xs ys ≡ xs ++ ys
 ends xs ys (inl e) = ap (λ l. union l ys) e ∙ sym (ap (λ l. l ++ ys) e)
 ends xs ys (inr e) = ap (union xs) e ∙ union-nil xs ∙ sym (append-nil xs) ∙ sym (ap (λ l. xs ++ l) e)
 

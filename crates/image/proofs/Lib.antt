@@ -19,3 +19,5 @@ pub mod ReadAnswers
 pub mod Rooms
 pub mod Arrivals
 pub mod Pushes
+pub mod Replacing
+pub mod Layering

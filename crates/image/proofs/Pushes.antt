@@ -3,11 +3,12 @@ use Rattle.std.proofs.Common.{◌≡◌, ◌⊎◌, inl, inr, ℕ, ◌+◌, ◌-
 use Rattle.std.specs.Prelude.{◌==◌, IfOk, nat_le, nat_lt}
 use Rattle.std.specs.Option.{option_or}
 use Rattle.std.specs.Cmp.Lexicographic.{nat_list_cmp_total}
-use Rattle.std.specs.FinMap.{len, same_map, slice_cmp-IsAntisymmetric, nat_cmp-IsAntisymmetric}
+use Rattle.std.specs.FinMap as finite
+use Rattle.std.specs.FinMap.{len, len-entries, same_map, slice_cmp-IsAntisymmetric, nat_cmp-IsAntisymmetric}
 use Rattle.std.proofs.Math.Nat.{min-eq_left, le-min}
-use Rattle.std.proofs.lemmas.Bool.{cases_lt, lt-ltb}
-use Rattle.std.proofs.lemmas.List.{length-append}
-use Rattle.procedure.specs.Table.{Table, with_cell, with_cells, merged}
+use Rattle.std.proofs.lemmas.Bool.{cases_lt, le-leb, lt-leb, lt-ltb}
+use Rattle.std.proofs.lemmas.List.{length-append, length-map}
+use Rattle.procedure.specs.Table.{Table, with_cells, merged}
 use Rattle.image.specs.Images.{Entry, Image, IsLawfulImage, changes_of, entries_of, full_image}
 use Rattle.image.specs.Merges.{Answers, Refusal, unless, is_full, is_partial, links_refusal, chain_refusal, refusal_of, last_of, merged_image, table_of, table_with_images}
 use Rattle.image.specs.Mergers.{Chain, Merging, unless_refused, no_images, with_image, chain_of, after, merge_of}
@@ -16,11 +17,6 @@ use Rattle.image.specs.declared.limits.TheConstants.{ENTRIES, IMAGES}
 use Rattle.image.specs.declared.merges.MergeError.{MergeError}
 use Rattle.image.specs.declared.merges.MergeError.TheVariants.{TooMany, NotFull, NotPartial, Gap, NoMemory}
 use Rattle.image.proofs.Tables.{lawful_full, value_at-changed, value_at-with_cells}
-
--- the last of some entries comes first
-pub with_cells_push : (t : Table) (es : List Entry) (e : Entry) → with_cells t (es ++ e ∷ []) ≡ with_cells (with_cell t e.0 e.1) es
-with_cells_push t [] e = refl
-with_cells_push t (f ∷ es) e = ap (λ u. with_cell u f.0 f.1) (with_cells_push t es e)
 
 -- the entries of an image change a table as the image does
 pub changed_by : (t : Table) (i : Image) → with_cells t i.entries ≡ merged t (changes_of i)
@@ -133,10 +129,20 @@ extended_by number place t es c i r none is_number is_place is_table is_entries 
     ∙ ap (λ s. unless_refused s (with_image c i)) none
 
 -- the end
-pub is_lawful : (number place : ℕ) (t : Table) (es : List Entry) → es ≡ entries_of t → len t ≤ ENTRIES →
-    IsLawfulImage (record { kind = Full; number = number; base = number; place = place; entries = es })
-is_lawful number place t es is few =
-    subst (λ l. IsLawfulImage (record { kind = Full; number = number; base = number; place = place; entries = l })) (sym is) (lawful_full number place t few)
+module _ (t : Table) (es : List Entry) (is : es ≡ entries_of t) where
+  counted_entries : length es ≡ len t
+  counted_entries = ap length is ∙ length-map (finite.entries t) (λ e. (e.0, Some e.1)) ∙ sym (len-entries t)
+
+  pub is_lawful : (number place : ℕ) → length es ≤ ENTRIES → IsLawfulImage (record { kind = Full; number = number; base = number; place = place; entries = es })
+  is_lawful number place few =
+      subst (λ l. IsLawfulImage (record { kind = Full; number = number; base = number; place = place; entries = l })) (sym is)
+      (lawful_full number place t (subst (λ n. n ≤ ENTRIES) counted_entries few))
+
+  pub not_refused : length es ≤ ENTRIES → unless (nat_le (len t) ENTRIES) TooMany ≡ None
+  not_refused few = ap (λ n. unless (nat_le n ENTRIES) TooMany) (sym counted_entries) ∙ ap (λ b. unless b TooMany) (le-leb (length es) ENTRIES few)
+
+  pub too_many : ENTRIES < length es → unless (nat_le (len t) ENTRIES) TooMany ≡ Some TooMany
+  too_many many = ap (λ n. unless (nat_le n ENTRIES) TooMany) (sym counted_entries) ∙ ap (λ b. unless b TooMany) (lt-leb (length es) ENTRIES many)
 
 answered : (refusal : Refusal) (whole : Image) (r : Result Image MergeError) → IfOk r (λ i. i ≡ whole) → Answers refusal r → (r ≡ unless_refused refusal whole) ⊎ (r ≡ Err NoMemory)
 answered refusal whole (Ok i) value says = inl (ap Ok value ∙ ap (λ s. unless_refused s whole) (sym says))

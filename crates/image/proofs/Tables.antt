@@ -64,7 +64,7 @@ value_at-merged : (t : Table) (c : Changes) (q : Bytes) → value_at (merged t c
 unfolding merged
 value_at-merged t c q = value_at-with_cells t (entries c) q ∙ ap (λ o. changed_or o (value_at t q)) (sym (get-entries c q))
 
-value_at-no_table : (q : Bytes) → value_at no_table q ≡ None
+pub value_at-no_table : (q : Bytes) → value_at no_table q ≡ None
 unfolding no_table
 value_at-no_table q = get-empty by_bytes q
 
@@ -72,7 +72,7 @@ value_at-no_table q = get-empty by_bytes q
 pub value_at-changed : (t : Table) (i : Image) (q : Bytes) → value_at (merged t (changes_of i)) q ≡ changed_or (find by_bytes q i.entries) (value_at t q)
 value_at-changed t i q = value_at-merged t (changes_of i) q ∙ ap (λ o. changed_or o (value_at t q)) (get-from_entries nat_list_cmp_total i.entries q)
 
-in_turn : (a b : Option Cell) (x : Cell) → changed_or a (changed_or b x) ≡ changed_or (option_or a b) x
+pub in_turn : (a b : Option Cell) (x : Cell) → changed_or a (changed_or b x) ≡ changed_or (option_or a b) x
 in_turn None b x = refl
 in_turn (Some y) b x = refl
 

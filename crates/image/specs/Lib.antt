@@ -4,6 +4,7 @@ pub mod Merges
 pub mod Mergers
 pub mod Openings
 pub mod Joins
+pub mod Layers
 pub mod EntryBytes
 pub mod ImageBytes
 pub mod Fronts

@@ -3,6 +3,8 @@ use Rattle.std.specs.Prelude.{◌≡◌, ◌≤◌, ◌⊎◌, ℕ, zero, suc, �
 use Rattle.std.specs.declared.result.Result.{Result}
 use Rattle.std.specs.Io.KnownBytes.{Consumes, IsAtEnd}
 use Rattle.procedure.specs.Bytes.{Bytes}
+use Rattle.procedure.specs.declared.streams.Unread.{Unread}
+use Rattle.procedure.specs.declared.streams.Unread.TheVariants as unread
 use Rattle.image.specs.Images.{Entry, Image}
 use Rattle.image.specs.ImageBytes.{entries_bytes}
 use Rattle.image.specs.declared.limits.TheConstants.{BLOCK}
@@ -17,6 +19,11 @@ use Rattle.image.specs.declared.streams.ReadFromError.TheVariants as read_refuse
 abbrev pub BlocksFit : ℕ → ℕ → List Entry → Type 0
 BlocksFit most zero es = Unit {0}
 BlocksFit most (suc m) es = (length (entries_bytes (take BLOCK es)) + 32 ≤ most) × BlocksFit most m (drop BLOCK es)
+
+-- a failed read stays one, and so does want of memory
+abbrev pub unread_as : Unread → ReadFromError
+unread_as unread.ReadFault = read_refused.ReadFault
+unread_as unread.NoMemory = read_refused.Image refused.NoMemory
 
 -- nothing was read to the end
 abbrev pub IsUnread : ReadFromError → Type 0

@@ -16,6 +16,7 @@ mod fronts;
 pub mod headers;
 pub mod images;
 pub mod laws;
+mod layers;
 pub mod limits;
 pub mod mergers;
 pub mod merges;

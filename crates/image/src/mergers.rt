@@ -3,18 +3,17 @@
 ghost use Rattle.std.specs.Prelude.{◌≡◌, ◌<◌, ◌-◌, ◌⊎◌, ◌++◌, [], ◌∷◌, List, Err, IfOk, OnOk, Some, nat_le};
 ghost use Rattle.std.specs.FinMap as finite;
 ghost use Rattle.std.specs.Result.{result_err};
-ghost use Rattle.procedure.specs.Table.{with_cell, with_cells};
 ghost use Rattle.image.specs.Images.{Image as SpecImage, full_image};
 ghost use Rattle.image.specs.Merges.{Answers, chain_refusal, is_full, links_refusal, unless};
 ghost use Rattle.image.specs.Mergers.{after, merge_of, unless_refused, with_image};
 ghost use Rattle.image.specs.declared.merges.MergeError.{MergeError as SpecError};
 ghost use Rattle.image.specs.declared.merges.MergeError.TheVariants as refused;
 
-use crate::entries::Entry;
-use crate::images::{Image, Kind, entries_of_table, full_of};
+use crate::images::{Image, Kind, full_of};
+use crate::layers::Layers;
 use crate::limits::{ENTRIES, IMAGES};
 use crate::merges::{MergeError, check_link};
-use procedure::{NoMemory, Table};
+use procedure::NoMemory;
 use std::alloc::Allocator;
 use std::marker::Model;
 
@@ -24,7 +23,7 @@ use std::marker::Model;
 struct Chain<A: Allocator> {
     number: u64,
     place: u64,
-    table: Table<A>,
+    table: Layers<A>,
 }
 
 impl<A: Allocator> Model for Chain<A> {
@@ -79,35 +78,6 @@ fn check_next<A: Allocator>(count: usize, number: u64, image: &Image<A>) -> Resu
     Ok(())
 }
 
-/// Makes a key hold what an entry says of it.
-fn apply<A: Allocator + Clone>(table: &mut Table<A>, entry: Entry<A>) -> Result<(), NoMemory>
-    ensures { OnOk result (table.new ≡ with_cell table.old entry.0 entry.1) }
-{
-    let Entry { key, cell } = entry;
-    match cell {
-        Some(value) => {
-            table.insert(key, value)?;
-        }
-        None => {
-            table.remove(&key);
-        }
-    }
-    Ok(())
-}
-
-/// A table changed by entries, from the last to the first.
-fn changed<A: Allocator + Clone>(
-    mut table: Table<A>,
-    mut entries: Vec<Entry<A>, A>,
-) -> Result<Table<A>, NoMemory>
-    ensures { IfOk result (λ t. t ≡ with_cells table entries.items) }
-{
-    while let Some(entry) = entries.pop() {
-        apply(&mut table, entry)?;
-    }
-    Ok(table)
-}
-
 /// The chain with one more image, or why that is refused.
 fn extended<A: Allocator + Clone>(
     count: usize,
@@ -118,11 +88,15 @@ fn extended<A: Allocator + Clone>(
     ensures later { 0 < count → IfOk result (λ c. c ≡ unless_refused (links_refusal (count - 1) chain.number (image ∷ [])) (with_image chain image)) }
 {
     match check_next(count, chain.number, &image) {
-        Ok(()) => Ok(Ok(Chain {
-            number: image.number(),
-            place: image.place(),
-            table: changed(chain.table, image.into_entries())?,
-        })),
+        Ok(()) => {
+            // Brings in that the image is lawful.
+            let _entries = image.entries();
+            Ok(Ok(Chain {
+                number: image.number(),
+                place: image.place(),
+                table: chain.table.with(image.into_entries())?,
+            }))
+        }
         Err(refusal) => Ok(Err(refusal)),
     }
 }
@@ -132,10 +106,10 @@ fn full_image_of<A: Allocator + Clone>(alloc: A, chain: Chain<A>) -> Result<Imag
     ensures value { IfOk result (λ i. i ≡ full_image chain.number chain.place chain.table) }
     ensures refusal { Answers (unless (nat_le (finite.len chain.table) ENTRIES) refused.TooMany) result }
 {
-    if chain.table.len() > ENTRIES {
+    let entries = chain.table.into_entries(alloc)?;
+    if entries.len() > ENTRIES {
         return Err(MergeError::TooMany);
     }
-    let entries = entries_of_table(alloc, chain.table)?;
     Ok(full_of(chain.number, chain.place, entries))
 }
 
@@ -149,15 +123,16 @@ impl<A: Allocator> Merger<A> {
             chain: Ok(Chain {
                 number: 0,
                 place: 0,
-                table: Table::new(alloc),
+                table: Layers::new(alloc),
             }),
         }
     }
 }
 
 impl<A: Allocator + Clone> Merger<A> {
-    /// Takes the next image, whose entries move into the table. Only keys that are new to it take memory;
-    /// where that is refused the merger is given up. Whether the images are a chain is told by `finish`.
+    /// Takes the next image, whose entries move into those of the chain. Each is looked at a number of
+    /// times that goes by the logarithm of all, and none is looked up. Where memory is refused the merger
+    /// is given up. Whether the images are a chain is told by `finish`.
     pub fn push(self, image: Image<A>) -> Result<Self, NoMemory>
         ensures { (images : List SpecImage) → self ≡ after images → IfOk result (λ m. m ≡ after (images ++ image ∷ [])) }
     {
@@ -183,6 +158,7 @@ impl<A: Allocator + Clone> Merger<A> {
     pub fn finish(self, alloc: A) -> Result<Image<A>, MergeError>
         ensures merge { (images : List SpecImage) → self ≡ after images → (result ≡ merge_of images) ⊎ (result ≡ Err refused.NoMemory) }
         ensures no_chain { (full : SpecImage) (ps : List SpecImage) (e : SpecError) → self ≡ after (full ∷ ps) → chain_refusal full ps ≡ Some e → result ≡ Err e }
+        ensures nothing { self ≡ after [] → result ≡ Err refused.NotFull }
     {
         let Merger { count, chain } = self;
         let chain = chain?;

@@ -50,7 +50,7 @@ fn entries_of<A: Allocator + Clone>(
     ensures fits { OnOk result (AllByRecursion (IsWithin most) pieces.now) }
     ensures err { IfErr result (λ e. (e ≡ refused.NoMemory) ⊎ ((e ≡ refused.BadForm) × (AllByRecursion (IsWithin most) pieces.now → ⊥))) }
 {
-    let mut entries = Vec::new(alloc.clone()?);
+    let mut entries = Vec::with_capacity(alloc.clone()?, pieces.len())?;
     for piece in pieces {
         entries.push(entry_of(alloc.clone()?, most, piece)?)?;
     }

@@ -15,7 +15,7 @@ ghost use Rattle.image.specs.Refusals.{IsAnswer};
 ghost use Rattle.image.specs.declared.errors.ReadError.{ReadError as SpecReadError};
 ghost use Rattle.procedure.specs.declared.streams.WriteError.TheVariants as write_refused;
 ghost use Rattle.procedure.specs.Streams.{IsBegun};
-ghost use Rattle.image.specs.Streams.{BlocksFit, IsAnswerFrom, IsUnread, TellsFrom};
+ghost use Rattle.image.specs.Streams.{BlocksFit, IsAnswerFrom, TellsFrom};
 
 use crate::entries::Entry;
 use crate::errors::ReadError;
@@ -55,9 +55,10 @@ impl fmt::Display for ReadFromError {
 impl Error for ReadFromError {}
 
 impl From<Unread> for ReadFromError {
-    ghost use Rattle.image.specs.Streams.{IsUnread};
+    ghost use Rattle.std.specs.Prelude.{◌≡◌};
+    ghost use Rattle.image.specs.Streams.{unread_as};
 
-    ghost from_gives = { λ _ e. IsUnread e };
+    ghost from_gives = { λ u e. e ≡ unread_as u };
 
     fn from(unread: Unread) -> Self {
         match unread {

@@ -1,7 +1,7 @@
 //! Bytes that come from a reader, or go to a writer. A call that is interrupted is a failed one: no call
 //! is tried again.
 
-ghost use Rattle.std.specs.Prelude.{◌≡◌, ◌≤◌, IfOk, OnErr, OnOk, length};
+ghost use Rattle.std.specs.Prelude.{◌≡◌, ◌≤◌, [], IfOk, IsOk, OnErr, OnOk, length};
 ghost use Rattle.std.specs.Io.KnownBytes.{Appends, Consumes, IsAtEnd};
 ghost use Rattle.procedure.specs.Streams.{IsBegun};
 
@@ -92,9 +92,11 @@ impl From<AllocError> for Unread {
 }
 
 /// Writes all of the bytes. The first write that fails ends it, and then a beginning of them went out.
+/// Where there are none, nothing is written, and nothing fails.
 pub fn write_out<W: Write>(writer: &mut W, bytes: &[u8]) -> Result<(), WriteFault>
     ensures ok { OnOk result (Appends (W.contents writer.old) (W.contents writer.new) bytes.now) }
     ensures err { OnErr result (IsBegun (W.contents writer.old) (W.contents writer.new) bytes.now) }
+    ensures nothing { bytes.now ≡ [] → IsOk result }
 {
     let mut rest = bytes;
     while !rest.is_empty() {

@@ -200,6 +200,10 @@ pub no_keys_rise : (ks : List Bytes) → ks ≡ [] → IsStrictlySortedBy by_byt
 unfolding IsStrictlySortedBy
 no_keys_rise ks e = subst (IsStrictlySortedBy by_bytes) (sym e) tt
 
+pub no_keys_once : (ks : List Bytes) → ks ≡ [] → IsDistinct same ks
+unfolding IsDistinct
+no_keys_once ks e = subst (IsDistinct same) (sym e) tt
+
 -- a new key goes last
 pub set_of-insert_key : (ks : List Bytes) (k : Bytes) → list_any (same k) ks ≡ false → set_of (insert_key same ks k) ≡ with_member (set_of ks) k
 set_of-insert_key ks k absent = ap (λ b. set_of (if b then ks else ks ++ k ∷ [])) absent ∙ set_of-push ks k

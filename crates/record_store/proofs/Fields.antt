@@ -12,8 +12,8 @@ use Rattle.std.specs.Cmp.Lexicographic.{pointwise}
 use Rattle.indexmap.specs.IndexMap.{get as found_at}
 use Rattle.procedure.specs.Bytes.{Bytes, Cell}
 use Rattle.record_store.specs.DeadKeys.{IsLeast, SameKey, offer_at}
-use Rattle.record_store.specs.Stores.{StoreRecord, Slots, Finds, IsLeastCandidate, HasKeysOnce, record_at_rest, record_at, key_at, changed, candidate_at, candidate_key}
-use Rattle.record_store.specs.Entries.{cleaned, entry_at, entry_changed, live_of, offer_of, seen, taken, with_entry_copy, with_entry_stable}
+use Rattle.record_store.specs.Stores.{StoreRecord, Slots, Finds, IsLeastCandidate, HasKeysOnce, record_at_rest, record_at, key_at, changed, candidate_at, candidate_key, is_live, live_count}
+use Rattle.record_store.specs.Entries.{cleaned, entry_at, entry_changed, live_entries, live_of, offer_of, seen, taken, with_entry_copy, with_entry_stable}
 use Rattle.record_store.specs.Fields.{AreVacant, HasNot, slots_of, entry_key, IsMarked, IsStore}
 use Rattle.record_store.specs.declared.records.Entry.{Entry}
 use Rattle.record_store.specs.declared.stores.Store.TheInside.{Inside}
@@ -345,6 +345,20 @@ module _ {A : Type 0} where
 
   pub live_is : (s : Inside A) (slot : ℕ) → live_of_record (record_at (slots_of s) slot) ≡ live_of (entry_at s.slots.items slot)
   live_is s slot = ap live_of_record (view_at s slot) ∙ live_seen s.number (entry_at s.slots.items slot)
+
+  is_live_seen : (number : ℕ) (o : Option (Entry A)) → is_live (option_map (seen number) o) ≡ is_some (live_of o)
+  is_live_seen number o = ap is_some (live_seen number o)
+
+  live_counted : (number : ℕ) (slots : List (Option (Entry A))) → live_count (map (option_map (seen number)) slots) ≡ live_entries slots
+  live_counted number [] = refl
+  live_counted number (o ∷ slots) =
+      sum_by-cons (λ (o : Option StoreRecord). cond (is_live o) 1 0) (option_map (seen number) o) (map (option_map (seen number)) slots)
+      ∙ ap (λ b. cond b 1 0 + live_count (map (option_map (seen number)) slots)) (is_live_seen number o)
+      ∙ ap (λ n. cond (is_some (live_of o)) 1 0 + n) (live_counted number slots)
+      ∙ sym (sum_by-cons (λ (o : Option (Entry A)). cond (is_some (live_of o)) 1 0) o slots)
+
+  pub live_are : (s : Inside A) → live_count (slots_of s) ≡ live_entries s.slots.items
+  live_are s = live_counted s.number s.slots.items
 
   -- a copy of the entry's own live version
   copied_option : (o : Option (Entry A)) (number : ℕ) (copy : Cell) → copy ≡ live_of o → option_map (with_entry_stable copy number) o ≡ option_map (with_entry_copy number) o

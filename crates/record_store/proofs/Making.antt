@@ -74,7 +74,7 @@ module _ {A : Type 0} where
   few_taken slots = count_by-le-length is_some slots
 
   -- a store without slots
-  pub new_sound : (s : Inside A) → s.slots.items ≡ [] → s.records ≡ 0 → s.vacant.items ≡ [] → s.index.entries ≡ [] → s.dead ≡ [] → s.number ≡ 1 → IsStore s
+  pub new_sound : (s : Inside A) → s.slots.items ≡ [] → s.records ≡ 0 → s.vacant.items ≡ [] → s.index.entries ≡ [] → ((i : ℕ) → offer_at s.dead i ≡ None) → s.number ≡ 1 → IsStore s
   new_sound s slots records vacant index dead number =
       let none : (i : ℕ) → entry_at s.slots.items i ≡ None = λ i. ap (λ (x : List (Option (Entry A))). entry_at x i) slots in
       let unknown : (q : Bytes) → found_at (pointwise nat_eq) s.index q ≡ None = λ q. ap (λ (es : List (Bytes × ℕ)). lookup (pointwise nat_eq q) es) index in
@@ -89,7 +89,7 @@ module _ {A : Type 0} where
         room = ap length vacant ∙ sym (ap length slots);
         vacant = rw (records, vacant) tt;
         places = omega (arith, ap length slots);
-        offers = λ i. ap (λ (d : List (Option Bytes)). offer_at d i) dead ∙ sym (ap (option_and_then offer_of) (none i));
+        offers = λ i. dead i ∙ sym (ap (option_and_then offer_of) (none i));
         few = omega (arith, records);
       }
 

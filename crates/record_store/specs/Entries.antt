@@ -35,6 +35,10 @@ module _ {A : Type 0} where
   abbrev pub live_of : Option (Entry A) → Cell
   live_of o = option_and_then (λ e. e.live) o
 
+  -- how many slots have an entry that isn't dead
+  abbrev pub live_entries : List (Option (Entry A)) → ℕ
+  live_entries slots = count_by (λ (o : Option (Entry A)). is_some (live_of o)) slots
+
   -- the entry in the slot is changed so
   abbrev pub entry_changed : (Entry A → Entry A) → List (Option (Entry A)) → ℕ → List (Option (Entry A))
   entry_changed f slots slot = slice_set slots slot (option_map f (entry_at slots slot))

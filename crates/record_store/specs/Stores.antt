@@ -30,6 +30,13 @@ key_at slots slot = option_map (λ r. r.key) (record_at slots slot)
 abbrev pub live_at : Slots → ℕ → Cell
 live_at slots slot = option_and_then (λ r. r.live) (record_at slots slot)
 
+abbrev pub is_live : Option StoreRecord → Bool
+is_live o = is_some (option_and_then (λ r. r.live) o)
+
+-- how many records aren't dead
+abbrev pub live_count : Slots → ℕ
+live_count slots = count_by is_live slots
+
 abbrev pub stable_of : Option StoreRecord → Stable Cell
 stable_of None = Empty
 stable_of (Some r) = r.stable

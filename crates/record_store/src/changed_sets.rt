@@ -1,6 +1,6 @@
 //! The keys that were changed, for the checkpoints that take these alone.
 
-ghost use Rattle.std.specs.Prelude.{◌≡◌, ◌+◌, ◌<◌, ◌≤◌, false, if◌then◌else◌, IsOk, OnErr, OnOk, length, max, nat_eq, slice_get, vec_capacity};
+ghost use Rattle.std.specs.Prelude.{◌≡◌, ◌+◌, ◌<◌, ◌≤◌, false, true, if◌then◌else◌, IsOk, OnErr, OnOk, length, max, nat_eq, slice_get, vec_capacity};
 ghost use Rattle.std.specs.Cmp.Lexicographic.{pointwise, slice_cmp};
 ghost use Rattle.std.specs.List.{IsDistinct};
 ghost use Rattle.std.specs.List.Sorted.{IsStrictlySortedBy};
@@ -26,8 +26,10 @@ type Keys<A> = IndexSet<Key, BuildHasherDefault<FoldHasher>, A>;
 #[derive(Debug, Drop)]
 pub struct Changed<A: Allocator> {
     collecting: Keys<A>,
-    // Least keys first. `freeze` fills it, so it has memory for each key that can be collected.
+    // Each key once. `freeze` fills it, so it has memory for each key that can be collected.
     frozen: Vec<Key, A>,
+    // Whether the frozen keys lie in their order, least first.
+    in_order: bool,
     // How many keys can be collected in all. Both others may have memory for more.
     places: usize,
 }
@@ -55,6 +57,7 @@ impl<A: Allocator + Copy> Changed<A> {
         Changed {
             collecting: IndexSet::new(alloc),
             frozen: Vec::new(alloc),
+            in_order: true,
             places: 0,
         }
     }
@@ -94,24 +97,37 @@ fn sort_keys<A: Allocator>(keys: &mut Vec<Key, A>)
     requires { IsDistinct (pointwise nat_eq) keys.old.items }
     ensures same { set_of keys.new.items ≡ set_of keys.old.items }
     ensures in_order { IsStrictlySortedBy (slice_cmp nat_cmp) keys.new.items }
+    ensures distinct { IsDistinct (pointwise nat_eq) keys.new.items }
     ensures memory { vec_capacity keys.new ≡ vec_capacity keys.old }
 {
     keys.sort_unstable();
 }
 
-/// The list of these keys, least first. There is memory for them.
-fn fill_in_order<A: Allocator>(list: &mut Vec<Key, A>, keys: &[Key])
-    requires distinct { IsDistinct (pointwise nat_eq) keys.now }
-    requires memory { length keys.now ≤ vec_capacity list.old }
-    ensures same { set_of list.new.items ≡ set_of keys.now }
-    ensures in_order { IsStrictlySortedBy (slice_cmp nat_cmp) list.new.items }
+/// Puts keys that are there once in their order, unless it is said that they are in it.
+fn sort_once<A: Allocator>(keys: &mut Vec<Key, A>, in_order: &mut bool)
+    requires distinct { IsDistinct (pointwise nat_eq) keys.old.items }
+    requires said { in_order.old ≡ true → IsStrictlySortedBy (slice_cmp nat_cmp) keys.old.items }
+    ensures same { set_of keys.new.items ≡ set_of keys.old.items }
+    ensures in_order { IsStrictlySortedBy (slice_cmp nat_cmp) keys.new.items }
+    ensures distinct { IsDistinct (pointwise nat_eq) keys.new.items }
+    ensures memory { vec_capacity keys.new ≡ vec_capacity keys.old }
+{
+    if !*in_order {
+        sort_keys(keys);
+        *in_order = true;
+    }
+}
+
+/// The list of these keys. There is memory for them.
+fn fill<A: Allocator>(list: &mut Vec<Key, A>, keys: &[Key])
+    requires { length keys.now ≤ vec_capacity list.old }
+    ensures items { list.new.items ≡ keys.now }
     ensures memory { vec_capacity list.old ≤ vec_capacity list.new }
 {
     list.clear();
     if list.extend_from_slice(keys).is_err() {
         unreachable!()
     }
-    sort_keys(list);
 }
 
 impl<A: Allocator> Changed<A> {
@@ -154,7 +170,8 @@ impl<A: Allocator> Changed<A> {
     pub fn freeze(&mut self)
         ensures { self.new ≡ record self.old { collecting = empty_set; frozen = self.old.collecting } }
     {
-        fill_in_order(&mut self.frozen, self.collecting.as_slice());
+        fill(&mut self.frozen, self.collecting.as_slice());
+        self.in_order = false;
         // `clear` would go through all the room, and this goes through the keys.
         self.collecting.truncate(0);
     }
@@ -182,9 +199,19 @@ impl<A: Allocator> Changed<A> {
         self.collecting.contains(key)
     }
 
-    pub fn freezes(&self, key: &Key) -> bool
-        ensures { result ≡ has self.now.frozen key.now }
+    /// Puts the frozen keys in their byte order, if they aren't in it since `freeze`. `frozen_key` and
+    /// `freezes` need the order, and so do it too.
+    pub fn sort_frozen(&mut self)
+        ensures { self.new ≡ self.old }
     {
+        sort_once(&mut self.frozen, &mut self.in_order);
+    }
+
+    pub fn freezes(&mut self, key: &Key) -> bool
+        ensures value { result ≡ has self.old.frozen key.now }
+        ensures same { self.new ≡ self.old }
+    {
+        sort_once(&mut self.frozen, &mut self.in_order);
         self.frozen.binary_search(key).is_ok()
     }
 
@@ -195,9 +222,11 @@ impl<A: Allocator> Changed<A> {
     }
 
     /// The frozen key at an index in their byte order; None from `frozen_count` on.
-    pub fn frozen_key(&self, index: usize) -> Option<Key>
-        ensures { result ≡ slice_get (keys_of self.now.frozen) index }
+    pub fn frozen_key(&mut self, index: usize) -> Option<Key>
+        ensures value { result ≡ slice_get (keys_of self.old.frozen) index }
+        ensures same { self.new ≡ self.old }
     {
+        sort_once(&mut self.frozen, &mut self.in_order);
         self.frozen.get(index).copied()
     }
 }

@@ -1,9 +1,9 @@
 //! Records, and how a store keeps them.
 
-ghost use Rattle.std.specs.Prelude.{◌≡◌, ◌+◌, ◌<◌, ◌≤◌, ◌++◌, ◌∷◌, [], OnOk, OnErr, IsSome, IfOk, Some, None, false, true, length, map, max, slice_set, vec_capacity};
+ghost use Rattle.std.specs.Prelude.{◌≡◌, ◌+◌, ◌<◌, ◌≤◌, ◌++◌, ◌∷◌, [], OnOk, OnErr, IsSome, IfOk, Some, None, false, true, is_some, length, map, max, slice_set, vec_capacity};
 ghost use Rattle.std.specs.Option.{option_map, option_and_then};
 ghost use Rattle.record_store.specs.DeadKeys.{SameKey, offer_at};
-ghost use Rattle.record_store.specs.Entries.{IsPut, cleaned, entry_at, entry_changed, key_if_dead, lent_record, lent_stable, live_of, made, offer_of, seen, stable_in, stable_seen, taken, with_entry_aside, with_entry_live, with_entry_mark, with_entry_stable};
+ghost use Rattle.record_store.specs.Entries.{IsPut, cleaned, entry_at, entry_changed, key_if_dead, lent_record, lent_stable, live_entries, live_of, made, offer_of, seen, stable_in, stable_seen, taken, with_entry_aside, with_entry_live, with_entry_mark, with_entry_stable};
 
 use crate::dead_keys::DeadKeys;
 use procedure::{Key, NoMemory, Value};
@@ -100,6 +100,22 @@ pub(crate) fn lent<A: Allocator>(
         }),
         _ => None,
     }
+}
+
+fn is_live<A: Allocator>(slot: &Slot<A>) -> bool
+    ensures { result ≡ is_some (live_of slot.now) }
+{
+    match slot {
+        Some(entry) => entry.live.is_some(),
+        None => false,
+    }
+}
+
+/// How many slots have a record that isn't dead.
+pub(crate) fn live_among<A: Allocator>(slots: &[Slot<A>]) -> usize
+    ensures { result ≡ live_entries slots.now }
+{
+    slots.iter().filter(|slot| is_live(slot)).count()
 }
 
 /// The key that the record of a slot offers for reclaim.

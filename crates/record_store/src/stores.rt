@@ -7,7 +7,7 @@ ghost use Rattle.indexmap.specs.IndexMap.{spare, Updates as Notes};
 ghost use Rattle.record_store.specs.DeadKeys.{SameOffers};
 ghost use Rattle.record_store.specs.Entries.{lent_record};
 ghost use Rattle.record_store.specs.Fields.{mark_of};
-ghost use Rattle.record_store.specs.Stores.{Finds, IsLeastCandidate, HasKeysOnce, record_at_rest, changed, key_at, live_at, new_record, reclaimed, record_at, records, stable_at, with_available, with_aside, with_copy, with_live, with_record, with_stable};
+ghost use Rattle.record_store.specs.Stores.{Finds, IsLeastCandidate, HasKeysOnce, record_at_rest, changed, key_at, live_at, live_count, new_record, reclaimed, record_at, records, stable_at, with_available, with_aside, with_copy, with_live, with_record, with_stable};
 ghost use Rattle.record_store.specs.declared.records.Stable.TheVariants.{Empty, Was};
 ghost use Rattle.record_store.specs.declared.stores.CreateError.TheVariants.{TableFull};
 
@@ -106,6 +106,28 @@ impl<A: Allocator + Copy> Store<A> {
             number: 1,
         }
     }
+
+    /// A store without slots, with room for so many records.
+    pub fn with_capacity(alloc: A, capacity: usize) -> Result<Self, NoMemory>
+        ensures { IfOk result (λ store. store ≡ []) }
+    {
+        let records = 0;
+        let slots = Vec::with_capacity(alloc, capacity)?;
+        let vacant = Vec::with_capacity(alloc, capacity)?;
+        let index = IndexMap::with_capacity(alloc, capacity)?;
+        let mut dead = DeadKeys::new(alloc);
+        if let Some(last) = capacity.checked_sub(1) {
+            dead.make_place(last)?;
+        }
+        Ok(Store {
+            slots,
+            records,
+            vacant,
+            index,
+            dead,
+            number: 1,
+        })
+    }
 }
 
 impl<A: Allocator> Store<A> {
@@ -128,6 +150,13 @@ impl<A: Allocator> Store<A> {
         ensures { IsTrue result ↔ (records self.now ≡ 0) }
     {
         self.len() == 0
+    }
+
+    /// How many records aren't dead. It looks at each slot.
+    pub fn live_count(&self) -> usize
+        ensures { result ≡ live_count self.now }
+    {
+        records::live_among(&self.slots)
     }
 
     /// The slot of the key's record. No two slots have the same key.

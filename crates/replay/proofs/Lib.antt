@@ -9,3 +9,5 @@ pub mod OpeningImages
 pub mod ChainCuts
 pub mod Promised
 pub mod Passing
+pub mod InTurn
+pub mod Sizes

@@ -1,8 +1,9 @@
 //! The audit of a log.
 
-ghost use Rattle.std.specs.Prelude.{◌≡◌, ◌≤◌, ◌⊎◌, ◌↔◌, Err, IfErr, IfOk, IsTrue, OnOk, length};
+ghost use Rattle.std.specs.Prelude.{◌≡◌, ◌≤◌, ◌⊎◌, ◌↔◌, Err, IfErr, IfOk, IsTrue, OnOk, false, length};
 ghost use Rattle.std.specs.declared.result.Result.{Result};
 ghost use Rattle.commitlog.specs.declared.limits.TheConstants.{LOG_RECORDS};
+ghost use Rattle.image.specs.Openings.{is_opening};
 ghost use Rattle.replay.specs.Parts.{AreAudited, audited_at};
 ghost use Rattle.replay.specs.Audits.{IsAudit, NamesBoth, OfLog};
 ghost use Rattle.replay.specs.Promises.{FrontsPass, IsOneHistory};
@@ -119,7 +120,8 @@ fn answer<A: Allocator + Clone>(
     opening: &Image<A>,
     log_bytes: &[u8],
 ) -> Result<Audited, AuditError>
-    ensures { IsAudit catalog.now opening.now log_bytes.now result ⊎ (result ≡ Err refused.NoMemory) }
+    ensures audit { IsAudit catalog.now opening.now log_bytes.now result ⊎ (result ≡ Err refused.NoMemory) }
+    ensures no_opening { is_opening opening.now ≡ false → result ≡ Err refused.NotAnOpening }
 {
     if !opening.is_opening() {
         return Err(AuditError::NotAnOpening);
@@ -145,6 +147,7 @@ pub fn audit<A: Allocator + Clone>(
     ensures fronts { FrontsPass catalog.now opening.now log_bytes.now result }
     // There is no other answer.
     ensures only { (r : Result Audited AuditError) → IsAudit catalog.now opening.now log_bytes.now r → (result ≡ r) ⊎ (result ≡ Err refused.NoMemory) }
+    ensures no_opening { is_opening opening.now ≡ false → result ≡ Err refused.NotAnOpening }
 {
     answer(alloc, catalog, opening, log_bytes)
 }

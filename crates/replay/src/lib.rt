@@ -6,6 +6,8 @@
 
 pub mod audits;
 mod calls;
+#[cfg(test)]
+mod chain_tests;
 pub mod errors;
 mod headers;
 #[cfg(test)]
@@ -19,4 +21,4 @@ mod tests;
 
 pub use audits::{Audited, audit};
 pub use errors::{AuditError, RecoverError};
-pub use recovery::{Recovered, recover};
+pub use recovery::{Recovered, recover, recover_in_turn};

@@ -1,15 +1,19 @@
 //! A table recovered from images and a log.
 
-ghost use Rattle.std.specs.Prelude.{◌≡◌, ◌≤◌, ◌⊎◌, ◌↔◌, Err, IfErr, IfOk, IsTrue, OnOk, length};
+ghost use Rattle.std.specs.Prelude.{◌≡◌, ◌≤◌, ◌⊎◌, ◌↔◌, Err, IfErr, IfOk, IsTrue, List, Ok, OnOk, length};
+ghost use Rattle.std.specs.FinMap as finite;
 ghost use Rattle.std.specs.declared.result.Result.{Result};
 ghost use Rattle.phase.specs.declared.phases.Phase.TheVariants.{Resolve};
 ghost use Rattle.commitlog.specs.Records.{Token, record_of};
 ghost use Rattle.commitlog.specs.declared.limits.TheConstants.{LOG_RECORDS};
 ghost use Rattle.commitlog.specs.LogReadings.{IsReading, reading_of};
+ghost use Rattle.image.specs.Images.{Image as SpecImage};
+ghost use Rattle.image.specs.Mergers.{after};
 ghost use Rattle.image.specs.Merges.{table_of};
+ghost use Rattle.image.specs.declared.limits.TheConstants.{ENTRIES};
 ghost use Rattle.replay.specs.Parts.{Chained, RunAgain, at_place};
 ghost use Rattle.replay.specs.Promises.{FromImages, FromOpening};
-ghost use Rattle.replay.specs.Recovery.{BeginsLog, GoesOn, IsPlaced, IsRecovery, OfLog, Recovery};
+ghost use Rattle.replay.specs.Recovery.{BeginsLog, GoesOn, IsPlaced, IsRecovery, OfLog, Recovery, chain_of};
 ghost use Rattle.replay.specs.Replays.{is_torn};
 ghost use Rattle.replay.specs.declared.errors.RecoverError.{RecoverError};
 ghost use Rattle.replay.specs.declared.errors.RecoverError.TheVariants as refused;
@@ -20,7 +24,7 @@ use crate::headers::{names_catalog, names_opening};
 use crate::tables::into_table;
 use commitlog::records::Entry;
 use commitlog::{Ending, Record, StoredLog, read_log};
-use image::{Image, merge};
+use image::{Image, Merger, merge};
 use phase::Phase;
 use procedure::{Catalog, NoMemory, Table};
 use std::alloc::Allocator;
@@ -57,6 +61,16 @@ fn chain_of<A: Allocator + Clone>(alloc: A, images: &[Image<A>]) -> Result<Image
         Some((full, partials)) => Ok(merge(alloc, full, partials)?),
         None => Err(RecoverError::NotFull),
     }
+}
+
+/// The images that came one after another as one.
+fn chain_in_turn<A: Allocator + Clone>(
+    alloc: A,
+    merger: Merger<A>,
+) -> Result<Image<A>, RecoverError>
+    ensures { (images : List SpecImage) → merger ≡ after images → Chained images result }
+{
+    Ok(merger.finish(alloc)?)
 }
 
 /// Whether a record is the resolve token of this number.
@@ -178,13 +192,28 @@ fn recover_log<A: Allocator + Clone>(
     log: StoredLog<A>,
 ) -> Result<Recovered<A>, RecoverError>
     requires { length log.records ≤ LOG_RECORDS }
-    ensures { OfLog catalog.now image log.version log.header log.records log.ending result ⊎ (result ≡ Err refused.NoMemory) }
+    ensures answer { OfLog catalog.now image log.version log.header log.records log.ending result ⊎ (result ≡ Err refused.NoMemory) }
+    ensures few { IfOk result (λ r. finite.len r.state ≤ ENTRIES) }
 {
     check_start(alloc.clone()?, catalog, &image, &log)?;
     let from = image.place() as usize;
     let torn = is_torn(log.ending);
     let table = into_table(alloc.clone()?, image)?;
     run_again(&alloc, catalog, table, from, log.records.into_vec(), torn)
+}
+
+/// What is recovered from images that were put together and a log.
+fn answer_to<A: Allocator + Clone>(
+    alloc: A,
+    catalog: &Catalog<A>,
+    image: Image<A>,
+    log_bytes: &[u8],
+) -> Result<Recovered<A>, RecoverError>
+    ensures answer { (images : List SpecImage) → chain_of images ≡ Ok image → IsRecovery catalog.now images log_bytes.now result ⊎ (result ≡ Err refused.NoMemory) }
+    ensures few { IfOk result (λ r. finite.len r.state ≤ ENTRIES) }
+{
+    let log = read_log(alloc.clone()?, log_bytes)?;
+    recover_log(alloc, catalog, image, log)
 }
 
 fn answer<A: Allocator + Clone>(
@@ -196,8 +225,20 @@ fn answer<A: Allocator + Clone>(
     ensures { IsRecovery catalog.now images.now log_bytes.now result ⊎ (result ≡ Err refused.NoMemory) }
 {
     let image = chain_of(alloc.clone()?, images)?;
-    let log = read_log(alloc.clone()?, log_bytes)?;
-    recover_log(alloc, catalog, image, log)
+    answer_to(alloc, catalog, image, log_bytes)
+}
+
+fn answer_in_turn<A: Allocator + Clone>(
+    alloc: A,
+    catalog: &Catalog<A>,
+    merger: Merger<A>,
+    log_bytes: &[u8],
+) -> Result<Recovered<A>, RecoverError>
+    ensures answer { (images : List SpecImage) → merger ≡ after images → IsRecovery catalog.now images log_bytes.now result ⊎ (result ≡ Err refused.NoMemory) }
+    ensures few { IfOk result (λ r. finite.len r.state ≤ ENTRIES) }
+{
+    let image = chain_in_turn(alloc.clone()?, merger)?;
+    answer_to(alloc, catalog, image, log_bytes)
 }
 
 /// The table after a log's whole records: images that stand on one another are put together, and the
@@ -223,4 +264,25 @@ pub fn recover<A: Allocator + Clone>(
     ensures only { (r : Result Recovery RecoverError) → IsRecovery catalog.now images.now log_bytes.now r → (result ≡ r) ⊎ (result ≡ Err refused.NoMemory) }
 {
     answer(alloc, catalog, images, log_bytes)
+}
+
+/// As `recover`, from images that came one after another, so that none of them is kept but in what the
+/// merger has of all.
+pub fn recover_in_turn<A: Allocator + Clone>(
+    alloc: A,
+    catalog: &Catalog<A>,
+    merger: Merger<A>,
+    log_bytes: &[u8],
+) -> Result<Recovered<A>, RecoverError>
+    ensures answer { (images : List SpecImage) → merger ≡ after images → IsRecovery catalog.now images log_bytes.now result ⊎ (result ≡ Err refused.NoMemory) }
+    // From the opening alone, of each front of a log that was written from it on.
+    ensures opening { (images : List SpecImage) → merger ≡ after images → FromOpening catalog.now images log_bytes.now result }
+    // From images of its checkpoints, of each front that holds the last one's cut.
+    ensures images { (images : List SpecImage) → merger ≡ after images → FromImages catalog.now images log_bytes.now result }
+    // There is no other answer.
+    ensures only { (images : List SpecImage) (r : Result Recovery RecoverError) → merger ≡ after images → IsRecovery catalog.now images log_bytes.now r → (result ≡ r) ⊎ (result ≡ Err refused.NoMemory) }
+    // The table has room in an image.
+    ensures few { IfOk result (λ r. finite.len r.state ≤ ENTRIES) }
+{
+    answer_in_turn(alloc, catalog, merger, log_bytes)
 }

@@ -1,9 +1,10 @@
 //! The table of an image.
 
-ghost use Rattle.std.specs.Prelude.{◌≡◌, ◌∷◌, IfOk};
+ghost use Rattle.std.specs.Prelude.{◌≡◌, ◌≤◌, ◌∷◌, IfOk};
 ghost use Rattle.std.specs.FinMap as finite;
 ghost use Rattle.procedure.specs.Table.{with_pairs};
 ghost use Rattle.image.specs.Merges.{table_of};
+ghost use Rattle.image.specs.declared.limits.TheConstants.{ENTRIES};
 ghost use Rattle.replay.specs.Parts.{pairs_of};
 
 use image::{Entry, Image};
@@ -55,7 +56,8 @@ pub(crate) fn into_table<A: Allocator + Clone>(
     alloc: A,
     image: Image<A>,
 ) -> Result<Table<A>, NoMemory>
-    ensures { IfOk result (λ t. t ≡ table_of image) }
+    ensures table { IfOk result (λ t. t ≡ table_of image) }
+    ensures few { IfOk result (λ t. finite.len t ≤ ENTRIES) }
 {
     // Brings in that the image is lawful.
     let _entries = image.entries();

@@ -31,7 +31,7 @@ const EMPTY: [u8; 32] = [
 ];
 
 /// The digest of the opening in which `a` holds 1, sealed in version 2.
-const ONE: [u8; 32] = [
+pub(crate) const ONE: [u8; 32] = [
     0xd1, 0x4b, 0x7e, 0xe7, 0x67, 0x97, 0xd2, 0x5a, 0x74, 0x29, 0xd2, 0x62, 0x85, 0xc0, 0x5c, 0xd4,
     0xc6, 0x66, 0x3f, 0xca, 0xac, 0x9c, 0xe6, 0x14, 0xe7, 0x31, 0x7f, 0xb7, 0x5a, 0x94, 0x17, 0x92,
 ];
@@ -73,7 +73,7 @@ const FIRST: [u8; 203] = [
 /// A token, or a committed call of session 0 on the key `a`: its number, its procedure, the number
 /// handed in and the number replied, if any.
 #[derive(Clone, Copy)]
-enum Line {
+pub(crate) enum Line {
     Token(Phase, u64),
     Call(u64, u16, Option<u64>, Option<u64>),
 }
@@ -265,7 +265,12 @@ fn text(alloc: Global, bytes: &[u8]) -> Result<Value<Global>, Fail> {
 }
 
 /// A full image, in which a key holds the number.
-fn image(alloc: Global, number: u64, place: u64, held: Option<u64>) -> Result<Image<Global>, Fail> {
+pub(crate) fn image(
+    alloc: Global,
+    number: u64,
+    place: u64,
+    held: Option<u64>,
+) -> Result<Image<Global>, Fail> {
     let mut entries = Vec::new(alloc);
     if let Some(held) = held {
         entries.push(Entry {
@@ -317,7 +322,7 @@ fn record_of(alloc: Global, line: Line) -> Result<Record<Global>, Fail> {
     }
 }
 
-fn records_of(alloc: Global, lines: &[Line]) -> Result<Vec<Record<Global>>, Fail> {
+pub(crate) fn records_of(alloc: Global, lines: &[Line]) -> Result<Vec<Record<Global>>, Fail> {
     let mut records = Vec::new(alloc);
     for line in lines {
         records.push(record_of(alloc, *line)?)?;
@@ -347,16 +352,23 @@ fn number_at(state: &Table<Global>) -> Option<u64> {
     }
 }
 
-fn recovered(
+/// How many calls were run, whether the end was torn, and the number that the key holds.
+pub(crate) fn shown(
+    found: Result<Recovered<Global>, RecoverError>,
+) -> Result<(usize, bool, Option<u64>), RecoverError> {
+    match found {
+        Ok(found) => Ok((found.calls, found.torn, number_at(&found.state))),
+        Err(refused) => Err(refused),
+    }
+}
+
+pub(crate) fn recovered(
     alloc: Global,
     catalog: &Catalog<Global>,
     images: &[Image<Global>],
     bytes: &[u8],
 ) -> Result<(usize, bool, Option<u64>), RecoverError> {
-    match recover(alloc, catalog, images, bytes) {
-        Ok(found) => Ok((found.calls, found.torn, number_at(&found.state))),
-        Err(refused) => Err(refused),
-    }
+    shown(recover(alloc, catalog, images, bytes))
 }
 
 fn audited(
@@ -473,66 +485,6 @@ fn unpassed_logs(rt: HostRuntime) -> Result<(), Fail> {
         altered[at] ^= 1;
         let found = unpassed(rt.alloc(), &altered[..left])?;
         assert_eq!(rt; found, wanted, "{left} bytes, {at}");
-    }
-    Ok(())
-}
-
-/// Over an opening in which `a` holds 1: a call before the cut of a partial checkpoint, and one after it.
-const CUT: [Line; 6] = [
-    Calls(1, SET, Some(2), None),
-    Token(Phase::Prepare, 1),
-    Token(Phase::Resolve, 1),
-    Calls(2, SET, Some(3), None),
-    Token(Phase::Capture, 1),
-    Token(Phase::Complete, 1),
-];
-
-/// Number, base and place of the partial image, in which `a` holds 2, and what is recovered.
-const PARTIALS: [(
-    u64,
-    u64,
-    u64,
-    Result<(usize, bool, Option<u64>), RecoverError>,
-); 4] = [
-    (1, 0, 2, Ok((1, false, Some(3)))),
-    (1, 0, 1, Err(RecoverError::PlaceOutside)),
-    (2, 0, 2, Err(RecoverError::PlaceOutside)),
-    (8, 7, 2, Err(RecoverError::Gap(0))),
-];
-
-fn partial(alloc: Global, number: u64, base: u64, place: u64) -> Result<Image<Global>, Fail> {
-    let entries = image(alloc, 0, 0, Some(2))?.into_entries();
-    Ok(Image::new(Kind::Partial, number, base, place, entries).ok_or("not lawful")?)
-}
-
-/// The log of the calls and tokens.
-fn log_of_cut(alloc: Global) -> Result<Sequence<u8, Global>, Fail> {
-    let header = LogHeader {
-        catalog: CATALOG,
-        opening: ONE,
-    };
-    let records = records_of(alloc, &CUT)?;
-    log_of(alloc, &header, &records)
-}
-
-/// What is recovered from the opening and a partial image.
-fn recovered_from(
-    alloc: Global,
-    partial: Image<Global>,
-    bytes: &[u8],
-) -> Result<Result<(usize, bool, Option<u64>), RecoverError>, Fail> {
-    let catalog = catalog(alloc)?;
-    let images = vec![in alloc; image(alloc, 0, 0, Some(1))?, partial]?;
-    Ok(recovered(alloc, &catalog, &images, bytes))
-}
-
-#[test]
-fn chains(rt: HostRuntime) -> Result<(), Fail> {
-    let log = log_of_cut(rt.alloc())?;
-    for (number, base, place, wanted) in PARTIALS {
-        let partial = partial(rt.alloc(), number, base, place)?;
-        let found = recovered_from(rt.alloc(), partial, log.as_slice())?;
-        assert_eq!(rt; found, wanted);
     }
     Ok(())
 }

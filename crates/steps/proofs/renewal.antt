@@ -3,3 +3,4 @@ pub mod LiveEntries
 pub mod NextOpening
 pub mod RenewalRefusals
 pub mod JoinedLogs
+pub mod RestedStore

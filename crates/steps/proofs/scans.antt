@@ -6,3 +6,4 @@ pub mod SentEntries
 pub mod SharedDigests
 pub mod VisitCounts
 pub mod ScannedKeys
+pub mod Spots

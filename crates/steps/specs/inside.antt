@@ -8,3 +8,5 @@ pub mod Instructions
 pub mod RecordEdits
 pub mod Endings
 pub mod LiveEntries
+pub mod Openings
+pub mod Spots

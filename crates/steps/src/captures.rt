@@ -1,18 +1,18 @@
 //! How the scan of a checkpoint goes.
 
-ghost use Rattle.std.specs.Prelude.{◌≡◌, ◌≤◌, ◌++◌, ◌+◌, ℕ, IfOk, None, OnErr, OnOk, IsSome, Some, length, vec_capacity, vec_len};
+ghost use Rattle.std.specs.Prelude.{◌≡◌, ◌≤◌, ◌++◌, ◌+◌, [], ℕ, IfOk, IfSome, None, OnErr, OnOk, Some, length, vec_capacity, vec_len};
 ghost use Rattle.phase.specs.declared.phases.Phase.TheVariants.{Capture, Resolve};
 ghost use Rattle.procedure.specs.Bytes.{Bytes};
 ghost use Rattle.commitlog.specs.Histories.{phase_of};
 ghost use Rattle.record_store.specs.Stores.{changed, key_at, record_at};
-ghost use Rattle.record_store.specs.Stores as recorded;
 ghost use Rattle.steps.specs.inside.SetAside.{aside_at};
 ghost use Rattle.steps.specs.Checkpointing.{AdvancesTo, CapturesAs, visited};
 ghost use Rattle.steps.specs.CoreViews.{SameKeys};
-ghost use Rattle.steps.specs.inside.RecordEdits.{captured, edited, given_by};
+ghost use Rattle.steps.specs.inside.RecordEdits.{IsFound, captured, edited, given_by};
 ghost use Rattle.steps.specs.Versions.{given_of, is_kept, kept_of, versions_in};
 ghost use Rattle.steps.specs.Refusals.{Answers, advance_refusal, capture_refusal};
 ghost use Rattle.steps.specs.inside.CheckpointFields.{places, spots};
+ghost use Rattle.steps.specs.inside.Spots.{key_of_spot};
 ghost use Rattle.steps.specs.declared.errors.CaptureError.TheVariants as capturing;
 
 use crate::checkpointing::push_token;
@@ -56,18 +56,72 @@ fn places<A: Allocator>(kind: Kind, store: &Store<A>, changed: &Changed<A>) -> u
     }
 }
 
-/// The key at a place of a scan: of a slot, or of the frozen keys in their order.
-pub(crate) fn key_at_place<A: Allocator>(
+/// How many entries a scan is likely to capture: one of each live record, or of each frozen key; none
+/// where they are sent.
+fn likely_count<A: Allocator>(
+    way: Way,
     kind: Kind,
     store: &Store<A>,
     changed: &Changed<A>,
-    place: usize,
-) -> Option<Key>
-    ensures { result ≡ spots kind store.now changed.now.frozen place }
+) -> usize {
+    match (way, kind) {
+        (Way::Streamed, _) => 0,
+        (Way::Whole, Kind::Full) => store.live_count(),
+        (Way::Whole, Kind::Partial) => changed.frozen_count(),
+    }
+}
+
+/// Empties the list of what a scan captures, and makes room in it for so many entries.
+fn make_room<A: Allocator>(captured: &mut Vec<Entry<A>, A>, count: usize) -> Result<(), NoMemory>
+    ensures { captured.new.items ≡ [] }
+{
+    captured.clear();
+    Ok(captured.reserve_exact(count)?)
+}
+
+/// Sorts the frozen keys, where they are the places of a scan.
+fn order_places<A: Allocator>(kind: Kind, changed: &mut Changed<A>)
+    ensures { changed.new ≡ changed.old }
 {
     match kind {
-        Kind::Full => key_in(store, place),
-        Kind::Partial => changed.frozen_key(place),
+        Kind::Full => {}
+        Kind::Partial => changed.sort_frozen(),
+    }
+}
+
+/// Where a scan stands: at a key, whose record is in `slot` if it has one.
+#[derive(Clone, Copy)]
+pub(crate) struct Spot {
+    key: Key,
+    pub(crate) slot: Option<usize>,
+}
+
+/// Where a scan stands at a place: at the record of a slot, or at one of the frozen keys in their order.
+pub(crate) fn spot_at<A: Allocator>(
+    kind: Kind,
+    store: &Store<A>,
+    changed: &mut Changed<A>,
+    place: usize,
+) -> Option<Spot>
+    ensures key { key_of_spot result ≡ spots kind store.now changed.old.frozen place }
+    ensures found { IfSome result (λ s. IsFound store.now s.key s.slot) }
+    ensures same { changed.new ≡ changed.old }
+{
+    match kind {
+        Kind::Full => {
+            // Brings in that no two slots have the same key.
+            let _candidate = store.least_candidate();
+            let key = key_in(store, place)?;
+            Some(Spot {
+                key,
+                slot: Some(place),
+            })
+        }
+        Kind::Partial => {
+            let key = changed.frozen_key(place)?;
+            let slot = store.find(&key);
+            Some(Spot { key, slot })
+        }
     }
 }
 
@@ -101,24 +155,24 @@ fn visit_slot<A: Allocator + Clone>(
     }
 }
 
-/// Visits the record of a key, where it has one. No other slot has the key, as `find` tells.
+/// Visits the record where a scan stands, if there is one.
 fn visit<A: Allocator + Clone>(
     store: &mut Store<A>,
-    key: Option<Key>,
+    spot: Option<Spot>,
 ) -> Result<Option<Entry<A>>, NoMemory>
-    ensures once { IsSome key → recorded.HasKeysOnce store.old }
+    requires { IfSome spot (λ s. IsFound store.old s.key s.slot) }
     ensures slots { OnOk result (length store.new ≡ length store.old) }
     ensures keys { OnOk result (SameKeys store.old store.new) }
     ensures aside { OnOk result ((slot : ℕ) → aside_at store.new slot ≡ aside_at store.old slot) }
-    ensures versions { OnOk result ((q : Bytes) → versions_in store.new q ≡ visited key q (versions_in store.old q)) }
-    ensures given { IfOk result (λ given. given ≡ given_of (versions_in store.old) key) }
+    ensures versions { OnOk result ((q : Bytes) → versions_in store.new q ≡ visited (key_of_spot spot) q (versions_in store.old q)) }
+    ensures given { IfOk result (λ given. given ≡ given_of (versions_in store.old) (key_of_spot spot)) }
     ensures err { OnErr result (store.new ≡ store.old) }
 {
-    match key {
-        Some(key) => match store.find(&key) {
-            Some(slot) => visit_slot(store, slot),
-            None => Ok(None),
-        },
+    let Some(spot) = spot else {
+        return Ok(None);
+    };
+    match spot.slot {
+        Some(slot) => visit_slot(store, slot),
         None => Ok(None),
     }
 }
@@ -162,10 +216,17 @@ impl<A: Allocator + Clone> Core<A> {
         ensures err { OnErr result (self.new ≡ self.old) }
     {
         let bound = places(self.checkpoint.kind, &self.store, &self.changed);
+        let count = likely_count(
+            self.checkpoint.way,
+            self.checkpoint.kind,
+            &self.store,
+            &self.changed,
+        );
+        make_room(&mut self.checkpoint.captured, count)?;
         push_token(&mut self.log, Phase::Capture, self.checkpoint.number)?;
+        order_places(self.checkpoint.kind, &mut self.changed);
         self.checkpoint.cursor = 0;
         self.checkpoint.bound = bound;
-        self.checkpoint.captured.clear();
         self.checkpoint.scan = self.checkpoint.kind;
         self.checkpoint.given = Given::nothing();
         self.checkpoint.tally = Tally::none();
@@ -197,13 +258,13 @@ impl<A: Allocator + Clone> Core<A> {
         if self.checkpoint.captured.reserve(1).is_err() {
             return Err(CaptureError::NoMemory);
         }
-        let key = key_at_place(
+        let spot = spot_at(
             self.checkpoint.kind,
             &self.store,
-            &self.changed,
+            &mut self.changed,
             self.checkpoint.cursor,
         );
-        let held = match visit(&mut self.store, key) {
+        let held = match visit(&mut self.store, spot) {
             Ok(held) => held,
             Err(NoMemory) => return Err(CaptureError::NoMemory),
         };

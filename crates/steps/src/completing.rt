@@ -50,6 +50,21 @@ pub(crate) fn image_of<A: Allocator>(
     }
 }
 
+/// What was captured, by move. A list with over twice the room that it needs gives memory back.
+fn taken_list<A: Allocator>(
+    captured: &mut Vec<Entry<A>, A>,
+    empty: Vec<Entry<A>, A>,
+) -> Vec<Entry<A>, A>
+    ensures entries { result.items ≡ captured.old.items }
+    ensures left { captured.new.items ≡ empty.items }
+{
+    let mut entries = mem::replace(captured, empty);
+    if entries.capacity() / 2 > entries.len() {
+        entries.shrink_to_fit();
+    }
+    entries
+}
+
 impl<A: Allocator + Clone> Core<A> {
     /// The image is finished, and waits to be taken.
     fn complete_image(&mut self) -> Result<(), NoMemory>
@@ -63,7 +78,7 @@ impl<A: Allocator + Clone> Core<A> {
         let _records = self.store.len();
         let empty = Vec::new(self.alloc.clone()?);
         push_token(&mut self.log, Phase::Complete, self.checkpoint.number)?;
-        let entries = mem::replace(&mut self.checkpoint.captured, empty);
+        let entries = taken_list(&mut self.checkpoint.captured, empty);
         let image = image_of(
             self.checkpoint.kind,
             self.checkpoint.number,

@@ -172,6 +172,11 @@ impl fmt::Display for OpenError {
 impl Error for OpenError {}
 
 impl From<NoMemory> for OpenError {
+    ghost use Rattle.std.specs.Prelude.{◌≡◌};
+    ghost use Rattle.steps.specs.declared.errors.OpenError.TheVariants as refused;
+
+    ghost from_gives = { λ _ e. e ≡ refused.NoMemory };
+
     fn from(_refused: NoMemory) -> Self {
         OpenError::NoMemory
     }
@@ -210,6 +215,11 @@ impl fmt::Display for BeginError {
 impl Error for BeginError {}
 
 impl From<NoMemory> for BeginError {
+    ghost use Rattle.std.specs.Prelude.{◌≡◌};
+    ghost use Rattle.steps.specs.declared.errors.BeginError.TheVariants as refused;
+
+    ghost from_gives = { λ _ e. e ≡ refused.NoMemory };
+
     fn from(_refused: NoMemory) -> Self {
         BeginError::NoMemory
     }

@@ -1,19 +1,23 @@
 //! How a new core goes on from the table of one whose log ends.
 
-ghost use Rattle.std.specs.Prelude.{◌≡◌, ◌↔◌, IfErr, IfOk, IsNone, IsTrue, None, OnOk, Some};
+ghost use Rattle.std.specs.Prelude.{◌≡◌, ◌↔◌, IfErr, IfOk, IfSome, IsNone, IsTrue, None, OnOk, Some, length, map, replicate};
+ghost use Rattle.std.specs.FinMap as finite;
 ghost use Rattle.std.specs.List.{All};
 ghost use Rattle.std.specs.Option.{option_map};
 ghost use Rattle.procedure.specs.Bytes.{Bytes};
 ghost use Rattle.procedure.specs.Table.{change_at};
+ghost use Rattle.procedure.specs.declared.limits.TheConstants.{SESSIONS};
 ghost use Rattle.image.specs.Headers.{EachKeyOnce, map_of};
+ghost use Rattle.image.specs.Images as images;
 ghost use Rattle.image.specs.Merges.{table_of};
-ghost use Rattle.record_store.specs.Stores.{record_at};
+ghost use Rattle.record_store.specs.Stores.{live_count, record_at, record_at_rest};
 ghost use Rattle.steps.specs.CoreViews.{table_now};
 ghost use Rattle.steps.specs.Openings.{IsOpened};
 ghost use Rattle.steps.specs.Refusals.{Answers};
 ghost use Rattle.steps.specs.Renewals.{next_opening, no_core, renew_refusal};
 ghost use Rattle.steps.specs.Versions.{live_version, versions_in};
 ghost use Rattle.steps.specs.inside.LiveEntries.{live_entry};
+ghost use Rattle.steps.specs.inside.Openings.{IsFilledBy};
 ghost use Rattle.steps.specs.declared.errors.RenewError.TheVariants as refused;
 
 use crate::calls::OpenCall;
@@ -21,7 +25,7 @@ use crate::completing::image_of;
 use crate::cores::Core;
 use crate::edits::copy_of;
 use crate::errors::RenewError;
-use crate::open::{core_of, parts_of};
+use crate::open::{Sessions, core_of, new_sessions, store_of};
 use commitlog::Log;
 use image::{Entry, Image, Kind};
 use phase::Phase;
@@ -38,6 +42,15 @@ pub struct Renewed<A: Allocator> {
     pub opening: Image<A>,
     /// The new one. Its opening is the table after that log.
     pub core: Core<A>,
+}
+
+/// What is made for the core that goes on, before the old one is taken apart.
+#[derive(Drop)]
+struct Next<A: Allocator> {
+    opening: Image<A>,
+    /// None where the old store serves again.
+    store: Option<Store<A>>,
+    sessions: Sessions<A>,
 }
 
 /// Whether no call of any session is open.
@@ -73,10 +86,11 @@ fn live_entries<A: Allocator + Clone>(
 ) -> Result<Vec<Entry<A>, A>, NoMemory>
     ensures once { IfOk result (λ es. EachKeyOnce es.items) }
     ensures values { IfOk result (λ es. (q : Bytes) → change_at (map_of es.items) q ≡ option_map (λ b. Some b) (live_version (versions_in store.now q))) }
+    ensures count { IfOk result (λ es. length es.items ≡ live_count store.now) }
 {
     // Brings in that no two slots have the same key.
     let _candidate = store.least_candidate();
-    let mut entries = Vec::new(alloc);
+    let mut entries = Vec::with_capacity(alloc, store.live_count())?;
     for slot in 0..store.slots() {
         if let Some(entry) = live_entry(store, slot)? {
             entries.push(entry)?;
@@ -109,14 +123,63 @@ impl<A: Allocator + Clone> Core<A> {
     /// The opening of the core that goes on from it.
     fn next_opening(&self) -> Result<Image<A>, NoMemory>
         requires { renew_refusal self.now ≡ None }
-        ensures { IfOk result (λ i. i ≡ next_opening self.now) }
+        ensures value { IfOk result (λ i. i ≡ next_opening self.now) }
+        ensures count { IfOk result (λ i. length i.entries ≡ live_count self.now.slots) }
     {
         let entries = live_entries(self.alloc.clone()?, &self.store)?;
         Ok(image_of(Kind::Full, 0, 0, 0, entries))
     }
 }
 
+/// The store of the core that goes on: a new one, or the old one with its records at rest.
+fn store_after<A: Allocator>(new: Option<Store<A>>, mut old: Store<A>) -> Store<A>
+    ensures { (next : images.Image) → IfSome new (IsFilledBy next) → (IsNone new → IsFilledBy next (map (option_map record_at_rest) old)) → IsFilledBy next result }
+{
+    match new {
+        Some(store) => store,
+        None => {
+            old.next_number();
+            old
+        }
+    }
+}
+
 impl<A: Allocator + Copy> Core<A> {
+    /// A store for the core that goes on; None where the one that stands serves, since each of its
+    /// slots has a record that isn't dead.
+    fn next_store(&self, next: &Image<A>) -> Result<Option<Store<A>>, NoMemory>
+        requires free { renew_refusal self.now ≡ None }
+        requires next { next.now ≡ next_opening self.now }
+        requires count { length next.now.entries ≡ live_count self.now.slots }
+        ensures some { IfOk result (λ store. IfSome store (IsFilledBy next.now)) }
+        ensures none { IfOk result (λ store. IsNone store → IsFilledBy next.now (map (option_map record_at_rest) self.now.slots)) }
+    {
+        if next.entries().len() == self.store.slots() {
+            return Ok(None);
+        }
+        Ok(Some(store_of(self.alloc, next)?))
+    }
+
+    /// Makes what the core that goes on doesn't take over.
+    fn next_parts(&self) -> Result<Next<A>, NoMemory>
+        requires { renew_refusal self.now ≡ None }
+        ensures opening { IfOk result (λ n. n.opening ≡ next_opening self.now) }
+        ensures some { IfOk result (λ n. IfSome n.store (IsFilledBy n.opening)) }
+        ensures none { IfOk result (λ n. IsNone n.store → IsFilledBy n.opening (map (option_map record_at_rest) self.now.slots)) }
+        ensures locks { IfOk result (λ n. n.sessions.locks ≡ replicate SESSIONS finite.empty) }
+        ensures calls { IfOk result (λ n. n.sessions.calls.items ≡ replicate SESSIONS None) }
+        ensures last { IfOk result (λ n. n.sessions.last.items ≡ replicate SESSIONS None) }
+    {
+        let opening = self.next_opening()?;
+        let store = self.next_store(&opening)?;
+        let sessions = new_sessions(self.alloc)?;
+        Ok(Next {
+            opening,
+            store,
+            sessions,
+        })
+    }
+
     /// Ends the core, and opens a new one with its catalog and its table. The log and the opening of
     /// the old one are handed over beside it. It needs no room in the log, so a core whose log is full
     /// can be renewed. The numbers of the sessions begin anew.
@@ -135,12 +198,8 @@ impl<A: Allocator + Copy> Core<A> {
         if let Err(refused) = self.may_renew() {
             return Err((self, refused));
         }
-        let next = match self.next_opening() {
+        let next = match self.next_parts() {
             Ok(next) => next,
-            Err(NoMemory) => return Err((self, RenewError::NoMemory)),
-        };
-        let parts = match parts_of(self.alloc, next.entries()) {
-            Ok(parts) => parts,
             Err(NoMemory) => return Err((self, RenewError::NoMemory)),
         };
         let Core {
@@ -148,9 +207,11 @@ impl<A: Allocator + Copy> Core<A> {
             catalog,
             opening,
             log,
+            store,
             ..
         } = self;
-        let core = core_of(alloc, catalog, next, parts);
+        let store = store_after(next.store, store);
+        let core = core_of(alloc, catalog, next.opening, store, next.sessions);
         Ok(Renewed { log, opening, core })
     }
 }

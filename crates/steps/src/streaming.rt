@@ -1,20 +1,20 @@
 //! How the scan of a streamed checkpoint sends its entries.
 
-ghost use Rattle.std.specs.Prelude.{◌≡◌, ◌≤◌, ◌+◌, ℕ, IfErr, IsSome, OnErr, OnOk, Some, IfOk, length, true};
+ghost use Rattle.std.specs.Prelude.{◌≡◌, ◌≤◌, ◌+◌, ℕ, IfErr, IfSome, OnErr, OnOk, Some, IfOk, length, true};
 ghost use Rattle.procedure.specs.Bytes.{Bytes};
 ghost use Rattle.image.specs.declared.limits.TheConstants.{ENTRIES};
 ghost use Rattle.pipe.specs.Rings.{SameTap, room};
 ghost use Rattle.record_store.specs.Stores.{changed, key_at, record_at};
-ghost use Rattle.record_store.specs.Stores as recorded;
 ghost use Rattle.steps.specs.inside.SetAside.{aside_at};
-ghost use Rattle.steps.specs.inside.RecordEdits.{available_at, captured, edited, given_by};
+ghost use Rattle.steps.specs.inside.RecordEdits.{IsFound, available_at, captured, edited, given_by};
 ghost use Rattle.steps.specs.inside.Sends.{IsRefused, IsSent, SendsNothing};
+ghost use Rattle.steps.specs.inside.Spots.{key_of_spot};
 ghost use Rattle.steps.specs.Checkpointing.{CapturesAs, visited};
 ghost use Rattle.steps.specs.CoreViews.{SameKeys};
 ghost use Rattle.steps.specs.Streaming.{AnswersTo, GivesOne, MayBeFull, SendsGiven};
 ghost use Rattle.steps.specs.Versions.{given_of, kept_of, versions_in};
 
-use crate::captures::{Captured, is_kept, key_at_place};
+use crate::captures::{Captured, Spot, is_kept, spot_at};
 use crate::checkpoints::{Tally, Way};
 use crate::cores::Core;
 use crate::edits::copy_of;
@@ -132,33 +132,33 @@ fn send_slot<A: Allocator + Clone>(
     }
 }
 
-/// Visits the record of a key, where it has one, and sends what it held at the cut.
-fn send_key<A: Allocator + Clone>(
+/// Visits the record where a scan stands, if there is one, and sends what it held at the cut.
+fn send_spot<A: Allocator + Clone>(
     store: &mut Store<A>,
-    key: Option<Key>,
+    spot: Option<Spot>,
     tap: &mut Tap<A>,
     given: &mut Given<Entry<A>>,
     tally: &mut Tally,
     kind: Kind,
 ) -> Result<(), CaptureToError>
+    requires found { IfSome spot (λ s. IsFound store.old s.key s.slot) }
     requires few { tally.old.count ≤ ENTRIES }
-    ensures once { IsSome key → recorded.HasKeysOnce store.old }
     ensures slots { OnOk result (length store.new ≡ length store.old) }
     ensures keys { OnOk result (SameKeys store.old store.new) }
     ensures aside { OnOk result ((slot : ℕ) → aside_at store.new slot ≡ aside_at store.old slot) }
-    ensures versions { OnOk result ((q : Bytes) → versions_in store.new q ≡ visited key q (versions_in store.old q)) }
+    ensures versions { OnOk result ((q : Bytes) → versions_in store.new q ≡ visited (key_of_spot spot) q (versions_in store.old q)) }
     ensures err { OnErr result (store.new ≡ store.old) }
     ensures ring { SameTap tap.old tap.new }
-    ensures sent { OnOk result (IsSent (kept_of kind (given_of (versions_in store.old) key)) tap.old tap.new given.old given.new tally.old tally.new) }
+    ensures sent { OnOk result (IsSent (kept_of kind (given_of (versions_in store.old) (key_of_spot spot))) tap.old tap.new given.old given.new tally.old tally.new) }
     ensures room { OnOk result (room tap.old ≤ room tap.new + 1) }
     ensures refused { OnErr result (SendsNothing tap.old tap.new given.old given.new tally.old tally.new) }
-    ensures why { IfErr result (IsRefused kind (given_of (versions_in store.old) key) tap.old) }
+    ensures why { IfErr result (IsRefused kind (given_of (versions_in store.old) (key_of_spot spot)) tap.old) }
 {
-    match key {
-        Some(key) => match store.find(&key) {
-            Some(slot) => send_slot(store, slot, tap, given, tally, kind),
-            None => Ok(()),
-        },
+    let Some(spot) = spot else {
+        return Ok(());
+    };
+    match spot.slot {
+        Some(slot) => send_slot(store, slot, tap, given, tally, kind),
         None => Ok(()),
     }
 }
@@ -192,15 +192,15 @@ impl<A: Allocator + Clone> Core<A> {
         }
         // Brings in that the store has at most 100,000 records, and so that as many entries are sent.
         let _records = self.store.len();
-        let key = key_at_place(
+        let spot = spot_at(
             self.checkpoint.kind,
             &self.store,
-            &self.changed,
+            &mut self.changed,
             self.checkpoint.cursor,
         );
-        match send_key(
+        match send_spot(
             &mut self.store,
-            key,
+            spot,
             tap,
             &mut self.checkpoint.given,
             &mut self.checkpoint.tally,

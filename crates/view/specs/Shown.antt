@@ -1,8 +1,10 @@
 -- What images show, and which image may follow them.
-use Rattle.std.specs.Prelude.{◌≡◌, ◌⊎◌, ℕ, Bool, true, false, ◌||◌, ◌==◌, nat_lt, List, fold, Option, Some, None, Ok, Err}
+use Rattle.std.specs.Prelude.{◌≡◌, ◌⊎◌, ℕ, Bool, true, false, ◌||◌, ◌==◌, nat_lt, List, fold, Option, Some, None, IsSome, Ok, Err}
+use mathlib.Core.List.{IsPrefix}
 use Rattle.std.specs.declared.result.Result.{Result}
 use Rattle.std.specs.Option.{option_or}
-use Rattle.procedure.specs.Table.{Table, Changes, no_table, merged}
+use Rattle.procedure.specs.Bytes.{Bytes}
+use Rattle.procedure.specs.Table.{Table, Changes, no_table, merged, value_at}
 use Rattle.image.specs.Images.{Image, changes_of}
 use Rattle.image.specs.Merges.{is_full}
 use Rattle.image.specs.declared.images.Kind.{Kind}
@@ -18,6 +20,10 @@ shown_by Partial t changes = merged t changes
 -- the table that images show, from the first to the last
 abbrev pub shown : List Image → Table
 shown images = fold (λ t i. shown_by i.kind t (changes_of i)) no_table images
+
+-- a key holds a value in what some images show of which these are the first
+abbrev pub HoldsLater : List Image → Bytes → Type 0
+HoldsLater seen q = (images : List Image) × IsPrefix seen images × IsSome (value_at (shown images) q)
 
 -- the number of the last image; 0 where there is none
 abbrev pub number_of : List Image → ℕ
@@ -37,7 +43,7 @@ abbrev pub refusal_after : Option ℕ → Image → Option AppendError
 refusal_after None i = unless (is_full i.kind) NotFull
 refusal_after (Some last) i = option_or (unless (nat_lt last i.number) Older) (unless (is_full i.kind || (i.base == last)) Gap)
 
--- a call that answers this is refused so, or for want of memory; one that succeeds is not refused
+-- what is answered is the refusal, or, where there is none, want of memory
 abbrev pub Answers : {X : Type 0} → Option AppendError → Result X AppendError → Type 0
 Answers refusal (Ok x) = refusal ≡ None
-Answers refusal (Err e) = (refusal ≡ Some e) ⊎ (e ≡ NoMemory)
+Answers refusal (Err e) = (refusal ≡ Some e) ⊎ ((refusal ≡ None) × (e ≡ NoMemory))

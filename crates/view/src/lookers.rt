@@ -3,7 +3,8 @@
 ghost use Rattle.std.specs.Prelude.{◌≡◌, ◌⊎◌, IfOk, IfErr, IfSome, Some, codes};
 ghost use mathlib.Core.List.{IsPrefix};
 ghost use Rattle.procedure.specs.Table.{value_at};
-ghost use Rattle.view.specs.Shown.{number_of, shown};
+ghost use Rattle.view.specs.Shown.{HoldsLater, number_of, shown};
+ghost use Rattle.view.specs.declared.lookers.LookError.TheVariants as refused;
 
 use crate::histories::{Beginning, Naming};
 use crate::tables::Shown;
@@ -162,13 +163,15 @@ impl<J: Naming, A: Allocator + Clone> Looker<J, A> {
     /// What a key holds in the table that is published: one look-up, and a copy of the value. The images
     /// that are seen then begin with those seen before. It waits for nobody.
     ///
-    /// It returns `NoMemory` where the value wasn't copied, and `NotEntered` where the table isn't open to
-    /// this looker: a looker that outlives its publisher gets nothing more. Both hand `seen` back as it was.
+    /// It returns `NoMemory` where the key holds a value that wasn't copied, and `NotEntered` where the table
+    /// isn't open to this looker: a looker that outlives its publisher gets nothing more. Both hand `seen`
+    /// back as it was.
     pub fn get(&mut self, seen: Seen<J, A>, key: &Key) -> Result<Answer<J, A>, NoAnswer<J, A>>
         ensures later { IfOk result (λ a. IsPrefix seen a.seen) }
         ensures number { IfOk result (λ a. a.number ≡ number_of a.seen) }
         ensures value { IfOk result (λ a. a.value ≡ value_at (shown a.seen) key.now) }
         ensures err { IfErr result (λ e. e.seen ≡ seen) }
+        ensures memory { IfErr result (λ e. e.error ≡ refused.NoMemory → HoldsLater seen key.now) }
     {
         let Some(table) = self.handle.enter() else {
             return Err(NoAnswer {

@@ -1,6 +1,6 @@
 //! What lookers read, and what a publisher adds to it.
 
-ghost use Rattle.std.specs.Prelude.{◌≡◌, ◌≤◌, ◌++◌, ◌∷◌, [], IfOk, OnOk, OnErr, length};
+ghost use Rattle.std.specs.Prelude.{◌≡◌, ◌≤◌, ◌++◌, ◌∷◌, [], IfOk, IsSome, OnOk, OnErr, length};
 ghost use Rattle.image.specs.Images.{IsLawfulImage};
 ghost use Rattle.procedure.specs.Table.{value_at};
 ghost use Rattle.view.specs.Shown.{number_of, shown};
@@ -91,7 +91,8 @@ impl<J: Naming, A: Allocator> Shown<J, A> {
     pub(crate) fn value(&self, key: &Key) -> Result<Option<Value<A>>, AllocError>
     where
         A: Clone,
-        ensures { IfOk result (λ value. value ≡ value_at (shown self.now) key.now) }
+        ensures value { IfOk result (λ value. value ≡ value_at (shown self.now) key.now) }
+        ensures memory { OnErr result (IsSome (value_at (shown self.now) key.now)) }
     {
         match self.rows.get(key) {
             Some(value) => Ok(Some(value.clone()?)),

@@ -2,6 +2,8 @@ pub mod Checkpointed
 pub mod Checkpoints
 pub mod Claims
 pub mod Positions
+pub mod Refusals
 pub mod Sessions
 pub mod Shares
 pub mod Streams
+pub mod Texts

@@ -1,6 +1,6 @@
 //! A core with the images of its checkpoints.
 
-ghost use Rattle.std.specs.Prelude.{◌≡◌, ◌+◌, ◌++◌, ◌∷◌, [], IfOk, MatchResult, None, OnErr, OnOk, Some, map};
+ghost use Rattle.std.specs.Prelude.{◌≡◌, ◌+◌, ◌++◌, ◌∷◌, [], IfOk, IsOk, MatchResult, None, OnErr, OnOk, Some, map};
 ghost use Rattle.pipe.specs.Rings.{SameTap};
 ghost use Rattle.steps.specs.Schedules.{AdvancesAs, BeginsAs, FinishesAs, GivesUpAs, StartsAs, StepsAs, VisitsAs};
 ghost use Rattle.workers.specs.Streams.{SendsAs, StreamsAs};
@@ -196,9 +196,10 @@ impl<A: Allocator + Clone> Checkpointed<A> {
         self.core.capture_to(tap)
     }
 
-    /// A copy of the image that was taken last.
+    /// A copy of the image that was taken last. Where there is none, it takes no memory.
     pub fn copy_of_last(&self) -> Result<Option<Image<A>>, NoMemory>
-        ensures { IfOk result (λ i. i ≡ last_image self.now.images) }
+        ensures image { IfOk result (λ i. i ≡ last_image self.now.images) }
+        ensures memory { self.now.images ≡ [] → IsOk result }
     {
         match self.images.last() {
             Some(image) => Ok(Some(copy_of_image(self.images.allocator().clone()?, image)?)),

@@ -1,7 +1,7 @@
 //! Tests of a core's streamed checkpoints beside others: one schedule in both ways, the chain after an
 //! image that was lost, and a checkpoint that is sent through two rings.
 
-use crate::core_tests::{Ask, DEL, FULL, SET, Said, answer, args, called, catalog, opening, shown};
+use crate::core_tests::{Ask, DEL, FULL, SET, Said, answer, args, called, opened, opening, shown};
 use image::{Entry, Image, Kind, MergeError, assemble, merge, seal};
 use phase::Phase;
 use pipe::{Drain, Tap, ring};
@@ -70,10 +70,6 @@ struct Ends {
 fn ring_of_one(alloc: Global) -> Result<Ends, Fail> {
     let (tap, drain) = ring(alloc, 1)?;
     Ok(Ends { tap, drain })
-}
-
-fn opened(alloc: Global) -> Result<Core<Global>, Fail> {
-    Ok(Core::open(alloc, catalog(alloc)?, opening(alloc)?)?)
 }
 
 /// A call whose number is greater than that of each before it.
@@ -183,13 +179,24 @@ fn checkpoints(
     Ok(())
 }
 
+/// Makes the checkpoints at a core of their own.
+fn checkpoints_of_a_core(
+    alloc: Global,
+    images: &mut Vec<Image<Global>>,
+    way: Way,
+) -> Result<(), Fail> {
+    let mut ends = ring_of_one(alloc)?;
+    let mut core = opened(alloc)?;
+    let made = checkpoints(alloc, &mut core, &mut ends, images, way);
+    drop(core);
+    made
+}
+
 /// The opening and then those images, so that each stands at its number.
 fn images(alloc: Global, way: Way) -> Result<Vec<Image<Global>>, Fail> {
     let mut images = Vec::new(alloc);
     images.push(opening(alloc)?)?;
-    let mut core = opened(alloc)?;
-    let mut ends = ring_of_one(alloc)?;
-    checkpoints(alloc, &mut core, &mut ends, &mut images, way)?;
+    checkpoints_of_a_core(alloc, &mut images, way)?;
     Ok(images)
 }
 
@@ -344,10 +351,12 @@ fn count_sides(
 }
 
 fn sides(alloc: Global) -> Result<usize, Fail> {
-    let mut core = opened(alloc)?;
     let mut one = ring_of_one(alloc)?;
     let mut other = ring_of_one(alloc)?;
-    count_sides(alloc, &mut core, &mut one, &mut other)
+    let mut core = opened(alloc)?;
+    let sides = count_sides(alloc, &mut core, &mut one, &mut other);
+    drop(core);
+    sides
 }
 
 #[test]

@@ -272,8 +272,8 @@ fn count_right(
     requires { IsPair tap.old drain.old }
     ensures { IsPair tap.new drain.new }
 {
-    for (i, (ask, expected)) in ROW.into_iter().enumerate() {
-        if answer(alloc, core, tap, drain, ask)? != expected {
+    for (i, (ask, expected)) in ROW.iter().enumerate() {
+        if answer(alloc, core, tap, drain, *ask)? != *expected {
             return Ok(i);
         }
     }
@@ -315,14 +315,36 @@ const MADE: [Made; 4] = [
     Err(AssembleError::BadForm),
 ];
 
+/// A core that was just opened.
+pub(crate) fn opened(alloc: Global) -> Result<Core<Global>, Fail> {
+    Ok(Core::open(alloc, catalog(alloc)?, opening(alloc)?)?)
+}
+
+/// How many rows a core answers as it should.
+fn count_answered(
+    alloc: Global,
+    tap: &mut Tap<Global>,
+    drain: &mut Drain<Global>,
+) -> Result<usize, Fail>
+    requires { IsPair tap.old drain.old }
+    ensures { IsPair tap.new drain.new }
+{
+    let mut core = opened(alloc)?;
+    let right = count_right(alloc, &mut core, tap, drain);
+    drop(core);
+    right
+}
+
+/// The same through a ring of one entry, and what came through it makes.
+fn streamed(alloc: Global) -> Result<(usize, Option<[Made; 4]>), Fail> {
+    let (mut tap, mut drain) = ring(alloc, 1)?;
+    let right = count_answered(alloc, &mut tap, &mut drain)?;
+    Ok((right, made_of(alloc, tap, drain)))
+}
+
 #[test]
 fn streamed_through_a_ring_of_one(rt: HostRuntime) -> Result<(), Fail> {
-    let alloc = rt.alloc();
-    let mut core = Core::open(alloc, catalog(alloc)?, opening(alloc)?)?;
-    let (mut tap, mut drain) = ring(alloc, 1)?;
-    let right = count_right(alloc, &mut core, &mut tap, &mut drain)?;
-    let made = made_of(alloc, tap, drain);
-    assert_eq!(rt; right, ROW.len());
-    assert_eq!(rt; made, Some(MADE));
+    let told = streamed(rt.alloc())?;
+    assert_eq!(rt; told, (ROW.len(), Some(MADE)));
     Ok(())
 }

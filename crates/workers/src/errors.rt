@@ -37,24 +37,41 @@ impl CallRefusal {
 }
 
 impl From<BeginError> for CallRefusal {
+    ghost use Rattle.workers.specs.declared.errors.CallRefusal.TheVariants as refused;
+
+    ghost from_gives = { λ e r. r ≡ refused.Begin e };
+
     fn from(refusal: BeginError) -> Self {
         CallRefusal::Begin(refusal)
     }
 }
 
 impl From<StepError> for CallRefusal {
+    ghost use Rattle.workers.specs.declared.errors.CallRefusal.TheVariants as refused;
+
+    ghost from_gives = { λ e r. r ≡ refused.Step e };
+
     fn from(refusal: StepError) -> Self {
         CallRefusal::Step(refusal)
     }
 }
 
 impl From<FinishError> for CallRefusal {
+    ghost use Rattle.workers.specs.declared.errors.CallRefusal.TheVariants as refused;
+
+    ghost from_gives = { λ e r. r ≡ refused.Finish e };
+
     fn from(refusal: FinishError) -> Self {
         CallRefusal::Finish(refusal)
     }
 }
 
 impl fmt::Display for CallRefusal {
+    ghost use Rattle.std.specs.Prelude.{Some};
+    ghost use Rattle.workers.specs.Texts.{call_refusal_text};
+
+    ghost output = { λ e. Some (call_refusal_text e) };
+
     fn fmt<W: fmt::Write>(&self, f: &mut fmt::Formatter<W>) -> fmt::Result {
         match self {
             CallRefusal::Begin(refusal) => write!(f, "{refusal}"),
@@ -128,6 +145,11 @@ impl From<NoMemory> for CheckpointRefusal {
 }
 
 impl fmt::Display for CheckpointRefusal {
+    ghost use Rattle.std.specs.Prelude.{Some};
+    ghost use Rattle.workers.specs.Texts.{checkpoint_refusal_text};
+
+    ghost output = { λ e. Some (checkpoint_refusal_text e) };
+
     fn fmt<W: fmt::Write>(&self, f: &mut fmt::Formatter<W>) -> fmt::Result {
         match self {
             CheckpointRefusal::Start(refusal) => write!(f, "{refusal}"),
@@ -158,11 +180,13 @@ pub enum StreamError {
 
 impl StreamError {
     ghost use Rattle.std.specs.Prelude.{◌≡◌};
+    ghost use Rattle.workers.specs.Refusals.{stream_error_of};
     ghost use Rattle.workers.specs.declared.errors.StreamError.TheVariants as refused;
 
     /// That the core refused. Out of memory is one thing, wherever the core says it.
     pub fn of_refusal(refusal: CheckpointRefusal) -> Self
-        ensures { result ≡ refused.NoRing → ⊥ }
+        ensures value { result ≡ stream_error_of refusal }
+        ensures started { result ≡ refused.NoRing → ⊥ }
     {
         match refusal {
             CheckpointRefusal::NoMemory
@@ -176,6 +200,11 @@ impl StreamError {
 }
 
 impl fmt::Display for StreamError {
+    ghost use Rattle.std.specs.Prelude.{Some};
+    ghost use Rattle.workers.specs.Texts.{stream_error_text};
+
+    ghost output = { λ e. Some (stream_error_text e) };
+
     fn fmt<W: fmt::Write>(&self, f: &mut fmt::Formatter<W>) -> fmt::Result {
         match self {
             StreamError::NoRing => f.write_str("no ring"),
@@ -213,6 +242,11 @@ impl From<NoMemory> for GatherError {
 }
 
 impl fmt::Display for GatherError {
+    ghost use Rattle.std.specs.Prelude.{Some};
+    ghost use Rattle.workers.specs.Texts.{gather_error_text};
+
+    ghost output = { λ e. Some (gather_error_text e) };
+
     fn fmt<W: fmt::Write>(&self, f: &mut fmt::Formatter<W>) -> fmt::Result {
         match self {
             GatherError::Stranger => f.write_str("stranger"),

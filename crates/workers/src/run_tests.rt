@@ -9,7 +9,7 @@ use crate::checkpoints::Progress;
 use crate::errors::GatherError;
 use crate::gates::{Gate, Open, Point};
 use crate::gathering::gather;
-use crate::runs::{Report, Script, run_all};
+use crate::runs::{NotRun, Report, Script, run_all};
 use crate::sessions::run_session;
 use crate::shared::{Origin, Shared};
 use crate::shares::{Given, Response, Share};
@@ -198,6 +198,30 @@ fn outcome_of(
     }
 }
 
+/// What a report tells, and the number of the image that is published.
+fn told<J: Naming, R: Wait>(
+    alloc: Global,
+    report: Report<J, &R, Global>,
+    looker: &mut Looker<J, Global>,
+    seen: Seen<J, Global>,
+    key: &Key,
+) -> (Outcome, Option<u64>) {
+    let Report {
+        core,
+        shares,
+        images,
+        checkpoints,
+        publisher,
+        last,
+    } = report;
+    let number = shown(looker, seen, last, key);
+    // The table is open to lookers as long as there is its publisher.
+    drop(publisher);
+    let outcome = outcome_of(alloc, &core, shares, images.len(), checkpoints);
+    drop(core);
+    (outcome, number)
+}
+
 /// What a run came to, and the number of the image that is published.
 fn ran<J: Naming + Send + Sync, R: Threads + Wait + Sync, G: Gate + Sync>(
     rt: &R,
@@ -211,22 +235,12 @@ fn ran<J: Naming + Send + Sync, R: Threads + Wait + Sync, G: Gate + Sync>(
 ) -> Option<(Outcome, Option<u64>)> {
     let (publisher, mut looker, seen) = view;
     match run_all(rt, alloc, core, scripts, kinds, publisher, gate) {
-        Ok(report) => {
-            let Report {
-                core,
-                shares,
-                images,
-                checkpoints,
-                publisher: _,
-                last,
-            } = report;
-            let number = shown(&mut looker, seen, last, key);
-            Some((
-                outcome_of(alloc, &core, shares, images.len(), checkpoints),
-                number,
-            ))
+        Ok(report) => Some(told(alloc, report, &mut looker, seen, key)),
+        Err(NotRun { core, publisher }) => {
+            drop(core);
+            drop(publisher);
+            None
         }
-        Err(_) => None,
     }
 }
 
@@ -364,12 +378,23 @@ fn two_args(alloc: Global) -> Result<Vec<Vec<u8, Global>, Global>, Fail> {
     Ok(args)
 }
 
+/// Session 9 begins a call, which reads a key.
+fn hold(alloc: Global, core: &mut Core<Global>) -> Result<(), Fail> {
+    core.begin(9, 1, SWAP, two_args(alloc)?)?;
+    core.step(9)?;
+    Ok(())
+}
+
 /// A core in which session 9 has an open call that read a key.
 pub(crate) fn held(alloc: Global) -> Result<Core<Global>, Fail> {
     let mut core = opened(alloc)?;
-    core.begin(9, 1, SWAP, two_args(alloc)?)?;
-    core.step(9)?;
-    Ok(core)
+    match hold(alloc, &mut core) {
+        Ok(()) => Ok(core),
+        Err(fail) => {
+            drop(core);
+            Err(fail)
+        }
+    }
 }
 
 fn is_turns_out(response: &Response<Global>) -> bool {

@@ -1,6 +1,6 @@
 //! A core under a lock, with the count of its calls.
 
-ghost use Rattle.std.specs.Prelude.{◌≡◌, ◌+◌, ◌<◌, [], IfOk, MatchResult, map};
+ghost use Rattle.std.specs.Prelude.{◌≡◌, ◌+◌, ◌<◌, [], IfOk, IsOk, MatchResult, map};
 ghost use Rattle.commitlog.specs.Histories.{phase_of};
 ghost use Rattle.pipe.specs.Rings.{SameTap};
 ghost use Rattle.steps.specs.Schedules.{AdvancesAs, BeginsAs, FinishesAs, GivesUpAs, StartsAs, StepsAs, VisitsAs};
@@ -143,9 +143,10 @@ impl<L: Origin, A: Allocator + Clone> Locked<L, A> {
         self.held.take_image()
     }
 
-    /// A copy of the image that was taken last, if one was.
+    /// A copy of the image that was taken last, if one was. Where none was, it takes no memory.
     pub fn copy_of_last(&self) -> Result<Option<Image<A>>, NoMemory>
-        ensures { IfOk result (λ i. i ≡ last_image self.now.held.images) }
+        ensures image { IfOk result (λ i. i ≡ last_image self.now.held.images) }
+        ensures memory { self.now.held.images ≡ [] → IsOk result }
     {
         self.held.copy_of_last()
     }

@@ -91,16 +91,8 @@ type Outcome = (
     Result<(Kind, u64, bool), StreamError>,
 );
 
-fn ran<R: Threads + Wait + Sync>(
-    rt: &R,
-    alloc: Global,
-    core: Core<Global>,
-    lines: &[&[Line]],
-    kind: Kind,
-    turns: u64,
-) -> Result<Outcome, Fail> {
-    let scripts = scripts(alloc, lines)?;
-    let report = run_streamed(rt, alloc, core, scripts, kind, 1, turns, &Open);
+/// What a report tells.
+fn outcome_of(alloc: Global, report: StreamReport<Global>) -> Outcome {
     let StreamReport {
         core,
         shares,
@@ -111,7 +103,22 @@ fn ran<R: Threads + Wait + Sync>(
         Ok(image) => Ok(shown(&image, records)),
         Err(refused) => Err(refused),
     };
-    Ok((gather(alloc, records, shares), image))
+    let outcome = (gather(alloc, records, shares), image);
+    drop(core);
+    outcome
+}
+
+fn ran<R: Threads + Wait + Sync>(
+    rt: &R,
+    alloc: Global,
+    core: Core<Global>,
+    lines: &[&[Line]],
+    kind: Kind,
+    turns: u64,
+) -> Result<Outcome, Fail> {
+    let scripts = scripts(alloc, lines)?;
+    let report = run_streamed(rt, alloc, core, scripts, kind, 1, turns, &Open);
+    Ok(outcome_of(alloc, report))
 }
 
 /// A full and a partial checkpoint through a ring of one entry, beside three sessions; and no turn at all.
@@ -130,15 +137,35 @@ fn streamed_beside_sessions(rt: HostRuntime) -> Result<(), Fail> {
     Ok(())
 }
 
-/// A checkpoint that runs already, and a call that stays open.
+/// A core whose checkpoint runs.
+fn running(alloc: Global) -> Result<Core<Global>, Fail> {
+    let mut core = opened(alloc)?;
+    match core.start(Kind::Full) {
+        Ok(_) => Ok(core),
+        Err(refused) => {
+            drop(core);
+            Err(refused.into())
+        }
+    }
+}
+
+/// A run over a core whose checkpoint runs already, and one over a core with a call that stays open.
+fn ran_in_vain<R: Threads + Wait + Sync>(rt: &R, alloc: Global) -> Result<[Outcome; 2], Fail> {
+    let running = running(alloc)?;
+    let beside_a_checkpoint = ran(rt, alloc, running, &LINES, Kind::Full, 9)?;
+    let held = held(alloc)?;
+    let beside_a_call = ran(rt, alloc, held, &[], Kind::Full, 9)?;
+    Ok([beside_a_checkpoint, beside_a_call])
+}
+
 #[test]
 fn not_streamed(rt: HostRuntime) -> Result<(), Fail> {
-    let mut running = opened(rt.alloc())?;
-    running.start(Kind::Full)?;
-    let told = ran(&rt, rt.alloc(), running, &LINES, Kind::Full, 9)?;
+    let told = ran_in_vain(&rt, rt.alloc())?;
     let refusal = CheckpointRefusal::Start(StartError::NotAtRest);
-    assert_eq!(rt; told, (Ok(()), Err(StreamError::Refused(refusal))));
-    let told = ran(&rt, rt.alloc(), held(rt.alloc())?, &[], Kind::Full, 9)?;
-    assert_eq!(rt; told, (Ok(()), Err(StreamError::TurnsOut)));
+    let wanted = [
+        (Ok(()), Err(StreamError::Refused(refusal))),
+        (Ok(()), Err(StreamError::TurnsOut)),
+    ];
+    assert_eq!(rt; told, wanted);
     Ok(())
 }

@@ -1,8 +1,6 @@
 //! Which files a refusal is of, for the line on standard error that names them.
 
 use crate::faults::{Fault, Reason};
-use image::{ReadError, read_image};
-use std::alloc::Allocator;
 use std::fmt;
 
 /// What is refused. It prints as what stands before the reason.
@@ -65,18 +63,6 @@ impl<'a> ImageFiles<'a, '_> {
         }
     }
 
-    /// The first file that holds no image, which is looked for once more in the bytes of all.
-    fn unread<A: Allocator + Copy>(&self, alloc: A, files: &[Vec<u8, A>]) -> Option<&&'a str> {
-        for (name, bytes) in self.names.iter().zip(files) {
-            match read_image(alloc, bytes.as_slice()) {
-                Ok(_) => {}
-                Err(ReadError::NoMemory) => return None,
-                Err(_) => return Some(name),
-            }
-        }
-        None
-    }
-
     /// What a merge's fault is of, where this is the first file that holds no image.
     pub(crate) fn subject(&self, fault: &Fault, unread: Option<&&'a str>) -> Subject<'a> {
         let Fault::Refused(reason) = fault else {
@@ -94,14 +80,13 @@ impl<'a> ImageFiles<'a, '_> {
         }
     }
 
-    /// What a recovery's fault is of, with these names of its script and of its log, and with what the
-    /// files of images have.
-    pub(crate) fn recovered<A: Allocator + Copy>(
+    /// What a recovery's fault is of, with these names of its script and of its log, where this is the
+    /// first file that holds no image.
+    pub(crate) fn recovered(
         &self,
-        alloc: A,
         fault: &Fault,
         (script, log): (&'a str, &'a str),
-        files: &[Vec<u8, A>],
+        unread: Option<&&'a str>,
     ) -> Subject<'a> {
         let Fault::Refused(reason) = fault else {
             return Subject::Unknown;
@@ -111,10 +96,7 @@ impl<'a> ImageFiles<'a, '_> {
             Reason::WrongCatalog => Subject::Files(script, log),
             Reason::WrongOpening => self.beside(self.names.first(), log),
             Reason::PlaceOutside => self.beside(self.names.last(), log),
-            Reason::NotAnImage | Reason::BadDigest | Reason::BadBlock(_) | Reason::BadForm => {
-                named(self.unread(alloc, files))
-            }
-            _ => self.subject(fault, None),
+            _ => self.subject(fault, unread),
         }
     }
 }

@@ -225,16 +225,29 @@ fn agree(alloc: Global, core: &Core<Global>, chain: &[Image<Global>]) -> Result<
     )
 }
 
+/// What came of the schedule, how many images were kept, whether what was left is read and agrees, and how many
+/// sessions begin a call with the greatest number then.
+fn long(
+    alloc: Global,
+    core: &mut Core<Global>,
+    chain: &mut Vec<Image<Global>>,
+) -> Result<(Tally, usize, bool, usize), Fail> {
+    let tally = schedule(alloc, core, chain)?;
+    let agree = agree(alloc, core, chain.as_slice())?;
+    Ok((tally, chain.len(), agree, greatest(core, alloc)))
+}
+
+fn long_over_no_keys(alloc: Global) -> Result<(Tally, usize, bool, usize), Fail> {
+    let mut chain = Vec::new(alloc);
+    let mut core = opened(alloc, "")?;
+    let told = long(alloc, &mut core, &mut chain);
+    drop(core);
+    told
+}
+
 #[test]
 fn long_schedule(rt: HostRuntime) -> Result<(), Fail> {
-    let mut core = opened(rt.alloc(), "")?;
-    let mut chain = Vec::new(rt.alloc());
-    let tally = schedule(rt.alloc(), &mut core, &mut chain)?;
-    let agree = agree(rt.alloc(), &core, chain.as_slice())?;
-    let kept = chain.len();
-    drop(chain);
-    let sessions = greatest(&mut core, rt.alloc());
-    drop(core);
+    let (tally, kept, agree, sessions) = long_over_no_keys(rt.alloc())?;
     assert_eq!(rt;
         (tally.refused, kept, agree, sessions),
         (0, CHAIN, true, 64)

@@ -26,23 +26,35 @@ fn sizes_of(core: &Core<Global>) -> (usize, usize, usize, u64, usize) {
     )
 }
 
+/// Those of a core over these pairs.
+fn sizes_over(alloc: Global, pairs: &str) -> Result<(usize, usize, usize, u64, usize), Fail> {
+    let core = opened(alloc, pairs)?;
+    let sizes = sizes_of(&core);
+    drop(core);
+    Ok(sizes)
+}
+
 /// What a core shows that was just opened.
 #[test]
 fn opening(rt: HostRuntime) -> Result<(), Fail> {
-    let core = opened(rt.alloc(), "'a #1\n'b #2\n'c #3")?;
-    assert_eq!(rt; sizes_of(&core), (3, 0, 8, 0, 3));
+    let sizes = sizes_over(rt.alloc(), "'a #1\n'b #2\n'c #3")?;
+    assert_eq!(rt; sizes, (3, 0, 8, 0, 3));
     Ok(())
+}
+
+/// How a full image of no keys, with this number and place, is refused as an opening.
+fn opening_refused(alloc: Global, number: u64, place: u64) -> Result<Option<OpenError>, Fail> {
+    let catalog = Catalog::new(Sequence::empty(alloc))?;
+    let image = Image::new(Kind::Full, number, number, place, Vec::new(alloc)).ok_or("no image")?;
+    Ok(Core::open(alloc, catalog, image).err())
 }
 
 /// Numbers and places of full images that are no openings.
 #[test]
 fn no_openings(rt: HostRuntime) -> Result<(), Fail> {
-    let alloc = rt.alloc();
     for (number, place) in [(1, 0), (0, 1)] {
-        let catalog = Catalog::new(Sequence::empty(alloc))?;
-        let image = Image::new(Kind::Full, number, number, place, Vec::new(alloc));
-        let core = Core::open(alloc, catalog, image.ok_or("no image")?);
-        assert_eq!(rt; core.err(), Some(OpenError::NotAnOpening));
+        let refused = opening_refused(rt.alloc(), number, place)?;
+        assert_eq!(rt; refused, Some(OpenError::NotAnOpening));
     }
     Ok(())
 }
@@ -107,7 +119,9 @@ fn check_begins(rt: &impl Abort, alloc: Global, core: &mut Core<Global>) -> Resu
 #[test]
 fn refused_begins(rt: HostRuntime) -> Result<(), Fail> {
     let mut core = opened(rt.alloc(), "")?;
-    check_begins(&rt, rt.alloc(), &mut core)
+    let checked = check_begins(&rt, rt.alloc(), &mut core);
+    drop(core);
+    checked
 }
 
 /// Commands, and what the key `q` has then: no record, or its live version, its stable version after
@@ -175,7 +189,9 @@ fn versions_after(
 fn versions_of_row(alloc: Global, row: &Row<'_>) -> Result<Vec<u8, Global>, Fail> {
     let script = script_of_row(alloc, row)?;
     let mut core = opened(alloc, "")?;
-    versions_after(alloc, &mut core, script.as_str())
+    let versions = versions_after(alloc, &mut core, script.as_str());
+    drop(core);
+    versions
 }
 
 #[test]

@@ -87,23 +87,6 @@ fn text_of(alloc: Global, image: &Image<Global>) -> Result<Vec<u8>, Fail> {
     Ok(text)
 }
 
-/// The core that goes on, and how many records the log has that is handed over beside it.
-fn next_of(core: Core<Global>) -> Option<(Core<Global>, usize)> {
-    match core.renew() {
-        Ok(renewed) => {
-            let Renewed { log, core, .. } = renewed;
-            Some((core, log.len()))
-        }
-        Err(_) => None,
-    }
-}
-
-/// Whether a core was opened with the image that is printed so.
-fn opens_with(alloc: Global, core: &Core<Global>, wanted: &[u8]) -> Result<bool, Fail> {
-    let text = text_of(alloc, core.opening())?;
-    Ok(text.as_slice() == wanted)
-}
-
 /// The place of the next core's first call, which has the number of an earlier one, and whether its opening
 /// holds what the last call of the full log wrote.
 fn goes_on(core: &mut Core<Global>, alloc: Global) -> Option<(usize, bool)> {
@@ -114,17 +97,67 @@ fn goes_on(core: &mut Core<Global>, alloc: Global) -> Option<(usize, bool)> {
     Some((core.finish(0).ok()?.place, is_last))
 }
 
+/// How many records the log has that is handed over; whether the next core was opened with the image that is
+/// printed so; and how it goes on.
+type Next = (usize, bool, Option<(usize, bool)>);
+
+fn told(alloc: Global, renewed: &mut Renewed<Global>, wanted: &[u8]) -> Result<Next, Fail> {
+    let text = text_of(alloc, renewed.core.opening())?;
+    let goes_on = goes_on(&mut renewed.core, alloc);
+    Ok((renewed.log.len(), text.as_slice() == wanted, goes_on))
+}
+
+/// The same of a core that is renewed.
+fn renewed(alloc: Global, core: Core<Global>, wanted: &[u8]) -> Result<Next, Fail> {
+    match core.renew() {
+        Ok(mut renewed) => {
+            let told = told(alloc, &mut renewed, wanted);
+            drop(renewed);
+            told
+        }
+        Err((core, _)) => {
+            drop(core);
+            Err("not renewed".into())
+        }
+    }
+}
+
+/// How many checkpoints came to their end, how many calls were answered and how many records the log has, and how
+/// a call and a checkpoint are refused then.
+type Filled = (u32, (u64, usize), (Option<FinishError>, Option<StartError>));
+
+/// Fills the log.
+fn fill(alloc: Global, core: &mut Core<Global>) -> Filled {
+    (
+        checkpoints(core),
+        last_calls(core, alloc),
+        refused(core, alloc),
+    )
+}
+
+/// The opening of the table that is recovered once the log was filled, as it is printed.
+fn filled_and_recovered(alloc: Global, core: &mut Core<Global>) -> Result<(Filled, Vec<u8>), Fail> {
+    let filled = fill(alloc, core);
+    Ok((filled, recovered(alloc, core)?))
+}
+
+/// How a log is filled, and what its renewed core is.
+fn filled_and_renewed(alloc: Global) -> Result<(Filled, Next), Fail> {
+    let mut core = opened(alloc, OPENING)?;
+    match filled_and_recovered(alloc, &mut core) {
+        Ok((filled, wanted)) => Ok((filled, renewed(alloc, core, wanted.as_slice())?)),
+        Err(fail) => {
+            drop(core);
+            Err(fail)
+        }
+    }
+}
+
 #[test]
 fn full_log(rt: HostRuntime) -> Result<(), Fail> {
-    let mut core = opened(rt.alloc(), OPENING)?;
-    assert_eq!(rt; checkpoints(&mut core), CHECKPOINTS);
-    assert_eq!(rt; last_calls(&mut core, rt.alloc()), (CALLS, 1_000_000));
-    let wanted = (Some(FinishError::LogFull), Some(StartError::LogFull));
-    assert_eq!(rt; refused(&mut core, rt.alloc()), wanted);
-    let wanted = recovered(rt.alloc(), &core)?;
-    let (mut next, records) = next_of(core).ok_or("not renewed")?;
-    assert_eq!(rt; records, 1_000_000);
-    assert!(rt; opens_with(rt.alloc(), &next, wanted.as_slice())?);
-    assert_eq!(rt; goes_on(&mut next, rt.alloc()), Some((0, true)));
+    let (filled, next) = filled_and_renewed(rt.alloc())?;
+    let full = (Some(FinishError::LogFull), Some(StartError::LogFull));
+    assert_eq!(rt; filled, (CHECKPOINTS, (CALLS, 1_000_000), full));
+    assert_eq!(rt; next, (1_000_000, true, Some((0, true))));
     Ok(())
 }

@@ -66,7 +66,9 @@ fn grown_over<A: Allocator + Copy>(
     heap: &Fallible<Global>,
 ) -> Result<(u64, Option<usize>), Fail> {
     let mut core = opened(alloc, "")?;
-    grown(global, alloc, heap, &mut core)
+    let grown = grown(global, alloc, heap, &mut core);
+    drop(core);
+    grown
 }
 
 #[test]

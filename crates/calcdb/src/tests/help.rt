@@ -47,12 +47,18 @@ Arguments:
 Options:
       --open <IMAGE>  the image to open from
       --out <DIR>     the folder for the images and the log
+      --live          keeps DIR up while it runs
+      --sync          has the log on disk before each answer
       --threads       runs it in threads
       --progress      says on standard error how far it is
   -h, --help          Print help
 
 DIR must be there. At the end of the run it gets 0.img, the opening, N.img of each image that the script
 took, and log. Images of an earlier run stay, so use an empty folder.
+
+With --live they are made while the script runs: what a command adds to the log is in DIR before the
+command is answered, so that a kill loses nothing that was answered. With --sync it is on disk, so that a
+stop of the machine doesn't either. DIR has no log and no image before. Both go without --threads.
 
 Example: calcdb run bank.calc --open opening.img --out bank
 ";

@@ -71,8 +71,13 @@ fn write_all<'a>(core: &mut Core<&'a LocalHeap>, heap: &'a LocalHeap) -> Result<
 /// A core in which each key holds a value.
 fn written(heap: &LocalHeap) -> Result<Core<&LocalHeap>, Fail> {
     let mut core = opened(heap, "")?;
-    write_all(&mut core, heap)?;
-    Ok(core)
+    match write_all(&mut core, heap) {
+        Ok(()) => Ok(core),
+        Err(fail) => {
+            drop(core);
+            Err(fail)
+        }
+    }
 }
 
 /// How many bytes an answer with one reply holds.
@@ -83,7 +88,9 @@ fn held_by_reply<'a>(core: &mut Core<&'a LocalHeap>, heap: &'a LocalHeap) -> Res
 
 fn held_by_answer(heap: &LocalHeap) -> Result<usize, Fail> {
     let mut core = written(heap)?;
-    held_by_reply(&mut core, heap)
+    let held = held_by_reply(&mut core, heap);
+    drop(core);
+    held
 }
 
 #[test]
@@ -124,10 +131,18 @@ fn held_by_both<'a>(
     Ok((held(heap, sealed), held(heap, image)))
 }
 
+fn held_by_taken<'a>(
+    core: &mut Core<&'a LocalHeap>,
+    heap: &'a LocalHeap,
+) -> Result<(usize, usize), Fail> {
+    held_by_both(heap, taken(core)?)
+}
+
 fn held_by_image(heap: &LocalHeap) -> Result<(usize, usize), Fail> {
     let mut core = written(heap)?;
-    let image = taken(&mut core)?;
-    held_by_both(heap, image)
+    let held = held_by_taken(&mut core, heap);
+    drop(core);
+    held
 }
 
 #[test]
@@ -212,7 +227,9 @@ fn uses_by<'a>(
 
 fn uses(heap: &LocalHeap) -> Result<[(usize, usize); 3], Fail> {
     let mut core = written(heap)?;
-    uses_by(&mut core, heap)
+    let uses = uses_by(&mut core, heap);
+    drop(core);
+    uses
 }
 
 #[test]

@@ -74,6 +74,10 @@ fn long_answer(alloc: Global) -> Result<String<Global>, Fail> {
     Ok(format!(in alloc; "place 0 committed{replies}\n")?)
 }
 
+fn log_len(alloc: Global, core: &Core<Global>) -> Result<usize, Fail> {
+    Ok(log_of_core(alloc, core)?.len())
+}
+
 /// How many bytes the log of a script's run has.
 fn log_size<R: Abort + AllocGlobal>(
     rt: &R,
@@ -82,7 +86,9 @@ fn log_size<R: Abort + AllocGlobal>(
     answers: &str,
 ) -> Result<usize, Fail> {
     let ran = check_over(rt, "largest", script, pairs, answers)?;
-    Ok(log_of_core(rt.alloc(), &ran.core)?.len())
+    let len = log_len(rt.alloc(), &ran.core);
+    drop(ran);
+    len
 }
 
 /// A call of 64 reads, and one of a key of 33 bytes, which is none. Their records have 16,662 bytes and 87.
@@ -145,14 +151,16 @@ fn count_answered(core: &mut Core<Global>, alloc: Global, calls: u32) -> u32 {
 }
 
 /// How many of the calls are answered so, and how many slots the table has then.
-fn answered(alloc: Global, core: &mut Core<Global>) -> (u32, usize) {
-    (count_answered(core, alloc, 500_000), core.slots())
+fn answered(alloc: Global) -> Result<(u32, usize), Fail> {
+    let pairs = numbers(alloc, 100_000)?;
+    let mut core = opened(alloc, pairs.as_str())?;
+    let answered = (count_answered(&mut core, alloc, 500_000), core.slots());
+    drop(core);
+    Ok(answered)
 }
 
 #[test]
 fn many_calls(rt: HostRuntime) -> Result<(), Fail> {
-    let pairs = numbers(rt.alloc(), 100_000)?;
-    let mut core = opened(rt.alloc(), pairs.as_str())?;
-    assert_eq!(rt; answered(rt.alloc(), &mut core), (500_000, 100_000));
+    assert_eq!(rt; answered(rt.alloc())?, (500_000, 100_000));
     Ok(())
 }

@@ -15,8 +15,8 @@ use std::thread::Threads;
 use steps::Core;
 use view::{Naming, Opened, Publisher, open_view};
 use workers::{
-    GatherError, Open, Progress, Report, Script, Share, StreamReport, TURNS, gather, run_all,
-    run_streamed,
+    GatherError, NotRun, Open, Progress, Report, Script, Share, StreamReport, TURNS, gather,
+    run_all, run_streamed,
 };
 
 const SESSIONS: u16 = 8;
@@ -208,6 +208,61 @@ pub(crate) fn outcome_of<A: Allocator + Copy>(
     })
 }
 
+/// What a run beside checkpoints came to.
+pub(crate) fn outcome_of_report<J: Naming, R: Wait, A: Allocator + Copy>(
+    alloc: A,
+    report: Report<J, &R, A>,
+) -> Result<Outcome, Fail> {
+    let Report {
+        core,
+        shares,
+        images,
+        checkpoints: _,
+        publisher,
+        last,
+    } = report;
+    drop(publisher);
+    drop(last);
+    let outcome = outcome_of(alloc, &core, shares, images.as_slice());
+    drop(core);
+    outcome
+}
+
+/// An image as a list, or none.
+fn listed<A: Allocator + Copy>(
+    alloc: A,
+    image: Option<Image<A>>,
+) -> Result<Vec<Image<A>, A>, Fail> {
+    let mut images = Vec::new(alloc);
+    if let Some(image) = image {
+        images.push(image)?;
+    }
+    Ok(images)
+}
+
+/// What a streamed run came to; where its image isn't there, none is looked at.
+pub(crate) fn outcome_of_stream<A: Allocator + Copy>(
+    alloc: A,
+    report: StreamReport<A>,
+) -> Result<Outcome, Fail> {
+    let StreamReport {
+        core,
+        shares,
+        image,
+    } = report;
+    match listed(alloc, image.ok()) {
+        Ok(images) => {
+            let outcome = outcome_of(alloc, &core, shares, images.as_slice());
+            drop(core);
+            outcome
+        }
+        Err(fail) => {
+            drop(core);
+            Err(fail)
+        }
+    }
+}
+
 /// What comes of a run in which nothing is lost.
 fn whole(chains: usize) -> Outcome {
     Outcome {
@@ -226,19 +281,12 @@ fn ran<J: Naming + Send + Sync, R: Threads + Wait + Sync>(
     let scripts = scripts_of(alloc, SESSIONS, CALLS)?;
     let core = opened(alloc, "")?;
     match run_all(rt, alloc, core, scripts, &KINDS, publisher, &Open) {
-        Ok(report) => {
-            let Report {
-                core,
-                shares,
-                images,
-                checkpoints,
-                publisher: _,
-                last: _,
-            } = report;
-            let outcome = outcome_of(alloc, &core, shares, images.as_slice())?;
-            Ok((checkpoints, outcome))
+        Ok(report) => Ok((report.checkpoints, outcome_of_report(alloc, report)?)),
+        Err(NotRun { core, publisher }) => {
+            drop(core);
+            drop(publisher);
+            Err("not run".into())
         }
-        Err(_) => Err("not run".into()),
     }
 }
 
@@ -265,13 +313,7 @@ fn ran_streamed<R: Threads + Wait + Sync>(rt: &R, alloc: Global) -> Result<Outco
     let scripts = scripts_of(alloc, SESSIONS, CALLS)?;
     let core = opened(alloc, "")?;
     let report = run_streamed(rt, alloc, core, scripts, Kind::Full, 1, TURNS, &Open);
-    let StreamReport {
-        core,
-        shares,
-        image,
-    } = report;
-    let images = [image?];
-    outcome_of(alloc, &core, shares, &images)
+    outcome_of_stream(alloc, report)
 }
 
 /// A full checkpoint that is streamed through a ring of one entry.

@@ -15,7 +15,7 @@ use std::test::Fail;
 use std::thread::Threads;
 use steps::{Core, Renewed};
 use view::{Naming, Opened, Publisher, open_view};
-use workers::{Open, Report, Script, run_all};
+use workers::{NotRun, Open, Report, Script, run_all};
 
 const CORES: u64 = 4;
 
@@ -71,7 +71,29 @@ struct Left {
 fn renewed(core: Core<Global>) -> Result<Renewed<Global>, Fail> {
     match core.renew() {
         Ok(renewed) => Ok(renewed),
-        Err(_) => Err("not renewed".into()),
+        Err((core, _)) => {
+            drop(core);
+            Err("not renewed".into())
+        }
+    }
+}
+
+/// What a run leaves, whose core is renewed, and the publisher.
+fn left_of<'a, J: Naming, R: Wait>(
+    report: Report<J, &'a R, Global>,
+) -> Result<(Left, Publisher<J, &'a R, Global>), Fail> {
+    let Report {
+        core,
+        images,
+        publisher,
+        ..
+    } = report;
+    match renewed(core) {
+        Ok(renewed) => Ok((Left { renewed, images }, publisher)),
+        Err(fail) => {
+            drop(publisher);
+            Err(fail)
+        }
     }
 }
 
@@ -86,17 +108,12 @@ fn run_core<'a, J: Naming + Send + Sync, R: Threads + Wait + Sync>(
     let scripts = scripts_of(alloc, first)?;
     let kinds = [Kind::Full, Kind::Partial];
     match run_all(rt, alloc, core, scripts, &kinds, publisher, &Open) {
-        Ok(report) => {
-            let Report {
-                core,
-                images,
-                publisher,
-                ..
-            } = report;
-            let renewed = renewed(core)?;
-            Ok((Left { renewed, images }, publisher))
+        Ok(report) => left_of(report),
+        Err(NotRun { core, publisher }) => {
+            drop(core);
+            drop(publisher);
+            Err("no memory".into())
         }
-        Err(_) => Err("no memory".into()),
     }
 }
 
@@ -126,6 +143,40 @@ fn found_in(alloc: Global, left: &Left) -> Result<(usize, bool), Fail> {
     Ok((calls, table.as_slice() == next.as_slice()))
 }
 
+/// The core that goes on. What was left beside it would be kept on disk.
+fn next_of(left: Left) -> Core<Global> {
+    let Left { renewed, images } = left;
+    let Renewed { log, opening, core } = renewed;
+    drop(images);
+    drop(log);
+    drop(opening);
+    core
+}
+
+/// What was found in what a core left, and those that go on.
+type Served<'a, J, R> = ((usize, bool), Core<Global>, Publisher<J, &'a R, Global>);
+
+/// Runs a core, and looks at what it left.
+fn serve_one<'a, J: Naming + Send + Sync, R: Threads + Wait + Sync>(
+    rt: &'a R,
+    alloc: Global,
+    core: Core<Global>,
+    first: u64,
+    publisher: Publisher<J, &'a R, Global>,
+) -> Result<Served<'a, J, R>, Fail> {
+    let (left, publisher) = run_core(rt, alloc, core, first, publisher)?;
+    let found = found_in(alloc, &left);
+    let core = next_of(left);
+    match found {
+        Ok(found) => Ok((found, core, publisher)),
+        Err(fail) => {
+            drop(core);
+            drop(publisher);
+            Err(fail)
+        }
+    }
+}
+
 /// How many calls there are in the logs of all cores, and how many of the cores were recovered.
 fn serve<J: Naming + Send + Sync, R: Threads + Wait + Sync>(
     rt: &R,
@@ -138,13 +189,15 @@ fn serve<J: Naming + Send + Sync, R: Threads + Wait + Sync>(
     let mut core = open_core(alloc)?;
     let (mut calls, mut recovered) = (0usize, 0usize);
     for number in 0..CORES {
-        let (left, again) = run_core(rt, alloc, core, number.wrapping_mul(CALLS), publisher)?;
-        let (audited, is_same) = found_in(alloc, &left)?;
+        let first = number.wrapping_mul(CALLS);
+        let ((audited, is_same), next, again) = serve_one(rt, alloc, core, first, publisher)?;
         calls = calls.saturating_add(audited);
         recovered = recovered.saturating_add(usize::from(is_same));
-        core = left.renewed.core;
+        core = next;
         publisher = again;
     }
+    drop(core);
+    drop(publisher);
     Ok((calls, recovered))
 }
 

@@ -98,9 +98,11 @@ fn run_on_core<A: Allocator + Copy>(
 ) -> Result<(bool, bool), Fail> {
     let opening = opening_of(alloc, pairs)?;
     let Script { catalog, commands } = read_schedule(alloc, script.as_bytes())?;
-    let mut core = Core::open(alloc, catalog, opening)?;
     let commands = commands.into_vec();
-    carried_all(global, alloc, heap, &mut core, commands, refused, lines)
+    let mut core = Core::open(alloc, catalog, opening)?;
+    let carried = carried_all(global, alloc, heap, &mut core, commands, refused, lines);
+    drop(core);
+    carried
 }
 
 /// The commands, the last one twice.
@@ -219,7 +221,14 @@ fn slots_of<A: Allocator + Copy>(
     let opening = opening_of(alloc, "'a #1\n'b #1")?;
     let catalog = catalog_of(alloc)?;
     heap.arm(refused);
-    Ok(Core::open(alloc, catalog, opening).map(|core| core.slots()))
+    match Core::open(alloc, catalog, opening) {
+        Ok(core) => {
+            let slots = core.slots();
+            drop(core);
+            Ok(Ok(slots))
+        }
+        Err(refused) => Ok(Err(refused)),
+    }
 }
 
 #[test]

@@ -179,13 +179,24 @@ fn ended<A: Allocator + Clone>(
     (phase, header, asked)
 }
 
+fn row_by<A: Allocator + Copy>(
+    alloc: A,
+    heap: &Fallible<Global>,
+    core: &mut Core<A>,
+    ends: &mut Ends<A>,
+) -> Result<(usize, End), Fail> {
+    start(core)?;
+    carry(alloc, core, WRITE)?;
+    let right = count_right(heap, core, ends);
+    Ok((right, ended(heap, core, &ends.chain)))
+}
+
 fn row_over<A: Allocator + Copy>(alloc: A, heap: &Fallible<Global>) -> Result<(usize, End), Fail> {
-    let mut core = opened(alloc, PAIRS)?;
     let mut ends = ring_of_one(alloc)?;
-    start(&mut core)?;
-    carry(alloc, &mut core, WRITE)?;
-    let right = count_right(heap, &mut core, &mut ends);
-    Ok((right, ended(heap, &mut core, &ends.chain)))
+    let mut core = opened(alloc, PAIRS)?;
+    let told = row_by(alloc, heap, &mut core, &mut ends);
+    drop(core);
+    told
 }
 
 /// The log has room for four records since its first.
@@ -214,17 +225,27 @@ fn scanned<A: Allocator + Clone>(
     KEYS
 }
 
+fn scan_by<A: Allocator + Clone>(
+    heap: &Fallible<Global>,
+    core: &mut Core<A>,
+    ends: &mut Ends<A>,
+) -> Result<(u32, End), Fail> {
+    start(core)?;
+    let places = scanned(heap, core, ends);
+    Ok((places, ended(heap, core, &ends.chain)))
+}
+
 fn large_over<A: Allocator + Copy>(
     global: Global,
     alloc: A,
     heap: &Fallible<Global>,
 ) -> Result<(u32, End), Fail> {
     let pairs = numbers(global, KEYS)?;
-    let mut core = opened(alloc, pairs.as_str())?;
     let mut ends = ring_of_one(alloc)?;
-    start(&mut core)?;
-    let places = scanned(heap, &mut core, &mut ends);
-    Ok((places, ended(heap, &mut core, &ends.chain)))
+    let mut core = opened(alloc, pairs.as_str())?;
+    let told = scan_by(heap, &mut core, &mut ends);
+    drop(core);
+    told
 }
 
 /// Its log has room for four records too.

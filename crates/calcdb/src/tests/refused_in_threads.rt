@@ -5,7 +5,7 @@ ghost use Rattle.view.specs.Views.{name_of};
 
 use crate::tests::fixtures::opened;
 use crate::tests::growths::{Fallible, MOST};
-use crate::tests::many_sessions::{Outcome, outcome_of, scripts_of};
+use crate::tests::many_sessions::{Outcome, outcome_of_report, outcome_of_stream, scripts_of};
 use image::Kind;
 use std::alloc::Global;
 use std::marker::Brand;
@@ -13,7 +13,7 @@ use std::sync::Wait;
 use std::test::Fail;
 use std::thread::Threads;
 use view::{Naming, Opened, Publisher, open_view};
-use workers::{Open, Report, StreamReport, TURNS, run_all, run_streamed};
+use workers::{Open, TURNS, run_all, run_streamed};
 
 const KINDS: [Kind; 2] = [Kind::Full, Kind::Partial];
 
@@ -51,18 +51,7 @@ fn ran<'a, J: Naming + Send + Sync, R: Threads + Wait + Sync>(
     let asked = heap.asked();
     heap.arm(0);
     let (begun, right) = match ran {
-        Ok(report) => {
-            let Report {
-                core,
-                shares,
-                images,
-                checkpoints: _,
-                publisher: _,
-                last: _,
-            } = report;
-            let outcome = outcome_of(heap, &core, shares, images.as_slice())?;
-            (true, is_right(&outcome))
-        }
+        Ok(report) => (true, is_right(&outcome_of_report(heap, report)?)),
         Err(not_run) => (false, not_run.core.records().is_empty()),
     };
     Ok(Tried {
@@ -96,19 +85,11 @@ fn ran_streamed<R: Threads + Wait + Sync>(
     let report = run_streamed(rt, heap, core, scripts, Kind::Full, 1, TURNS, &Open);
     let asked = heap.asked();
     heap.arm(0);
-    let StreamReport {
-        core,
-        shares,
-        image,
-    } = report;
-    let mut images = Vec::new(heap);
-    if let Ok(image) = image {
-        images.push(image)?;
-    }
-    let outcome = outcome_of(heap, &core, shares, images.as_slice())?;
+    let begun = !report.core.records().is_empty();
+    let outcome = outcome_of_stream(heap, report)?;
     Ok(Tried {
         asked,
-        begun: !core.records().is_empty(),
+        begun,
         right: is_right(&outcome),
     })
 }

@@ -201,6 +201,21 @@ fn prepare<J: Naming, R: Wait + Drop, A: Allocator + Copy>(
     Ok(())
 }
 
+/// Makes a call of a view that was prepared for it.
+fn call_prepared<J: Naming, R: Wait + Drop, A: Allocator + Copy>(
+    alloc: A,
+    heap: &Fallible<Global>,
+    publisher: &mut Publisher<J, R, A>,
+    looker: &mut Looker<J, A>,
+    seen: Seen<J, A>,
+    (call, refused): (Call, u64),
+) -> Result<Outcome, Fail> {
+    let key = Key::new(b"a").ok_or("no key")?;
+    prepare(alloc, publisher, call)?;
+    let images = (numbered(alloc, 2)?, numbered(alloc, 2)?);
+    Ok(call_twice(heap, publisher, looker, seen, (call, refused), images, &key))
+}
+
 fn tried<J: Naming, R: Wait, A: Allocator + Copy>(
     rt: &R,
     alloc: A,
@@ -212,11 +227,14 @@ fn tried<J: Naming, R: Wait, A: Allocator + Copy>(
     requires { name_of opened ≡ J.book }
 {
     let (mut publisher, mut looker, seen) = open_view::<J, &R, A>(alloc, rt, opened)?;
-    let key = Key::new(b"a").ok_or("no key")?;
-    let images = (numbered(alloc, 2)?, numbered(alloc, 2)?);
-    prepare(alloc, &mut publisher, call)?;
-    let (publisher, looker) = (&mut publisher, &mut looker);
-    Ok(call_twice(heap, publisher, looker, seen, (call, refused), images, &key))
+    call_prepared(
+        alloc,
+        heap,
+        &mut publisher,
+        &mut looker,
+        seen,
+        (call, refused),
+    )
 }
 
 /// Whether a call that was refused changed nothing and then succeeded, or wasn't refused.
@@ -305,6 +323,28 @@ fn no_view_without_memory(rt: HostRuntime) -> Result<(), Fail> {
 
 /// What is seen of two publications, the second told and learnt with every growth refused, and how many
 /// growths were asked for.
+fn learnt_by<J: Naming, R: Wait + Drop, A: Allocator + Copy>(
+    alloc: A,
+    heap: &Fallible<Global>,
+    publisher: &mut Publisher<J, R, A>,
+    looker: &mut Looker<J, A>,
+    seen: Seen<J, A>,
+) -> Result<([Reply; 2], u64), Fail> {
+    let key = Key::new(b"a").ok_or("no key")?;
+    prepare(alloc, publisher, Call::Publish)?;
+    let (before, seen) = look(looker, seen, &key);
+    let published = publish(publisher);
+    heap.arm(EVERY);
+    let seen = looker.learn(seen, publisher.tell());
+    let asked = heap.asked();
+    heap.arm(0);
+    let (after, _seen) = look(looker, seen, &key);
+    match published {
+        Reply::Done => Ok(([before, after], asked)),
+        _ => Err("not published".into()),
+    }
+}
+
 fn learnt<J: Naming, R: Wait, A: Allocator + Copy>(
     rt: &R,
     alloc: A,
@@ -314,16 +354,7 @@ fn learnt<J: Naming, R: Wait, A: Allocator + Copy>(
     requires { name_of opened ≡ J.book }
 {
     let (mut publisher, mut looker, seen) = open_view::<J, &R, A>(alloc, rt, opened)?;
-    let key = Key::new(b"a").ok_or("no key")?;
-    prepare(alloc, &mut publisher, Call::Publish)?;
-    let (before, seen) = look(&mut looker, seen, &key);
-    publisher.publish()?;
-    heap.arm(EVERY);
-    let seen = looker.learn(seen, publisher.tell());
-    let asked = heap.asked();
-    heap.arm(0);
-    let (behind, _seen) = look(&mut looker, seen, &key);
-    Ok(([before, behind], asked))
+    learnt_by(alloc, heap, &mut publisher, &mut looker, seen)
 }
 
 #[test]

@@ -1,6 +1,7 @@
 //! Renewals of a core: the opening of the new one after each command of the old one, or how it is refused;
 //! and each growth refused in turn.
 
+use crate::commands::{Arguments, Command};
 use crate::output::{push_image, push_refusal};
 use crate::run::carry_out;
 use crate::scripts::{Script, read_schedule};
@@ -59,14 +60,19 @@ struct Renewal {
     holds: bool,
 }
 
+/// Carries out commands on a core.
+fn carry_all<A: Allocator + Clone>(core: &mut Core<A>, commands: Vec<Command<Arguments<A>>, A>) {
+    for command in commands {
+        drop(carry_out(core, command));
+    }
+}
+
 /// A core after the commands of a script.
 fn core_after<A: Allocator + Copy>(alloc: A, script: &str, pairs: &str) -> Result<Core<A>, Fail> {
     let opening = opening_of(alloc, pairs)?;
     let Script { catalog, commands } = read_schedule(alloc, script.as_bytes())?;
     let mut core = Core::open(alloc, catalog, opening)?;
-    for command in commands.into_vec() {
-        drop(carry_out(&mut core, command));
-    }
+    carry_all(&mut core, commands.into_vec());
     Ok(core)
 }
 
@@ -118,7 +124,16 @@ fn refusal_text(global: Global, refused: RenewError) -> Result<Vec<u8, Global>, 
 }
 
 fn is_renewed<A: Allocator + Copy>(core: Core<A>) -> bool {
-    core.renew().is_ok()
+    match core.renew() {
+        Ok(renewed) => {
+            drop(renewed);
+            true
+        }
+        Err((core, _)) => {
+            drop(core);
+            false
+        }
+    }
 }
 
 /// The refusal, as it is printed; and whether the core that was handed back shows what it showed before, and
@@ -130,10 +145,18 @@ fn stays<A: Allocator + Copy>(
     core: Core<A>,
     refused: RenewError,
 ) -> Result<(Vec<u8, Global>, bool), Fail> {
-    let is_same = shown(global, alloc, &core)?.as_str() == before;
-    let again = is_renewed(core);
     let text = refusal_text(global, refused)?;
-    Ok((text, is_same && again == (refused == RenewError::NoMemory)))
+    match shown(global, alloc, &core) {
+        Ok(after) => {
+            let again = is_renewed(core);
+            let holds = after.as_str() == before && again == (refused == RenewError::NoMemory);
+            Ok((text, holds))
+        }
+        Err(fail) => {
+            drop(core);
+            Err(fail)
+        }
+    }
 }
 
 /// What a core shows, and its log as bytes.
@@ -153,6 +176,23 @@ fn before_of<A: Allocator + Copy>(
     Ok(Before { shown, log })
 }
 
+/// What a renewal gave, as it is printed, and whether all else about it holds.
+fn seen<A: Allocator + Copy>(
+    global: Global,
+    alloc: A,
+    before: &Before<A>,
+    answer: Result<Renewed<A>, (Core<A>, RenewError)>,
+) -> Result<(Vec<u8, Global>, bool), Fail> {
+    match answer {
+        Ok(mut renewed) => {
+            let seen = goes_on(global, alloc, before.log.as_slice(), &mut renewed);
+            drop(renewed);
+            seen
+        }
+        Err((core, refused)) => stays(global, alloc, before.shown.as_str(), core, refused),
+    }
+}
+
 /// Renews a core where a growth is refused (0: none).
 fn tried<A: Allocator + Copy>(
     global: Global,
@@ -166,11 +206,7 @@ fn tried<A: Allocator + Copy>(
     let answer = core.renew();
     let asked = heap.asked();
     heap.arm(0);
-    let seen = match answer {
-        Ok(mut renewed) => goes_on(global, alloc, before.log.as_slice(), &mut renewed),
-        Err((core, refused)) => stays(global, alloc, before.shown.as_str(), core, refused),
-    };
-    let (text, holds) = seen?;
+    let (text, holds) = seen(global, alloc, before, answer)?;
     Ok(Renewal { text, asked, holds })
 }
 
@@ -190,8 +226,13 @@ fn renewed_after<A: Allocator + Copy>(
     refused: u64,
 ) -> Result<Renewal, Fail> {
     let core = core_after(alloc, front.script, front.pairs)?;
-    let before = before_of(global, alloc, &core)?;
-    tried(global, alloc, heap, core, &before, refused)
+    match before_of(global, alloc, &core) {
+        Ok(before) => tried(global, alloc, heap, core, &before, refused),
+        Err(fail) => {
+            drop(core);
+            Err(fail)
+        }
+    }
 }
 
 /// How many growths the renewal asks for, each of which was refused in turn. With none refused it is answered
@@ -258,15 +299,22 @@ fn streamed(core: &mut Core<Global>) -> Option<()> {
 /// The number of the header that waits, and whether the core is renewed once it is taken.
 fn without_header(mut core: Core<Global>) -> (Option<u64>, bool) {
     let number = core.take_header().map(|header| header.number);
-    (number, core.renew().is_ok())
+    (number, is_renewed(core))
 }
 
 /// How a renewal is refused where a header waits, and the same of the core that was handed back.
 fn after_a_header(mut core: Core<Global>) -> Option<(RenewError, Option<u64>, bool)> {
     streamed(&mut core)?;
-    let (core, refused) = core.renew().err()?;
-    let (number, is_renewed) = without_header(core);
-    Some((refused, number, is_renewed))
+    match core.renew() {
+        Ok(renewed) => {
+            drop(renewed);
+            None
+        }
+        Err((core, refused)) => {
+            let (number, is_renewed) = without_header(core);
+            Some((refused, number, is_renewed))
+        }
+    }
 }
 
 #[test]

@@ -7,6 +7,7 @@ use crate::run::{Shown, push_shown};
 use crate::scripts::{Schedule, Script, read_schedule};
 use crate::tests::fixtures::{check_over, opening_of, script_of};
 use crate::values::decimal_of;
+use image::Image;
 use std::alloc::Global;
 use std::process::Abort;
 use std::test::Fail;
@@ -213,12 +214,22 @@ fn run_of(alloc: Global, script: Schedule<Global>, pairs: &str) -> Result<Run<Gl
 /// next image for each that one was taken.
 pub(crate) fn driven(alloc: Global, script: &str, pairs: &str) -> Result<Vec<u8, Global>, Fail> {
     let script = read_schedule(alloc, script.as_bytes())?;
-    let mut out = Vec::new(alloc);
     let Run {
+        core,
         answers,
         images,
-        ..
     } = run_of(alloc, script, pairs)?;
+    drop(core);
+    printed(alloc, answers, images)
+}
+
+/// What is printed of these replies and images.
+fn printed(
+    alloc: Global,
+    answers: Vec<Reply<Global>, Global>,
+    images: Vec<Image<Global>, Global>,
+) -> Result<Vec<u8, Global>, Fail> {
+    let mut out = Vec::new(alloc);
     let mut images = images.into_iter();
     for reply in answers {
         let shown = match reply {

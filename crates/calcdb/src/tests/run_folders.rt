@@ -6,6 +6,7 @@ use crate::digesting::Telling;
 use crate::engine::Ran;
 use crate::faults::failures::{Failure, OutFile, RunFile};
 use crate::run_folder::{RunFolder, write_run};
+use crate::tests::devices::PLENTY;
 use crate::tests::fixtures::{check_over, log_of_core};
 use image::{Image, seal};
 use procedure::streams::WriteError;
@@ -16,15 +17,15 @@ use std::test::Fail;
 
 /// A file in memory, before it has a name.
 #[derive(Drop)]
-struct MemoryFile {
+pub(crate) struct MemoryFile {
     bytes: Vec<u8, Global>,
 }
 
 /// A file in memory that was made.
 #[derive(Drop)]
-struct MadeFile {
-    name: RunFile,
-    bytes: Vec<u8, Global>,
+pub(crate) struct MadeFile {
+    pub(crate) name: RunFile,
+    pub(crate) bytes: Vec<u8, Global>,
 }
 
 impl Write for MemoryFile {
@@ -49,10 +50,23 @@ impl Telling for MemoryFile {
 
 /// A folder in memory that takes at most `room` files.
 #[derive(Drop)]
-struct MemoryFolder {
-    alloc: Global,
-    made: Vec<MadeFile, Global>,
+pub(crate) struct MemoryFolder {
+    pub(crate) alloc: Global,
+    pub(crate) made: Vec<MadeFile, Global>,
     room: usize,
+    /// How many bytes a call a log takes that is kept up, and how many calls.
+    pub(crate) taken: (usize, usize),
+}
+
+impl MemoryFolder {
+    pub(crate) fn new(alloc: Global, room: usize) -> MemoryFolder {
+        MemoryFolder {
+            alloc,
+            made: Vec::new(alloc),
+            room,
+            taken: (PLENTY, PLENTY),
+        }
+    }
 }
 
 impl<R> RunFolder<R> for MemoryFolder {
@@ -125,7 +139,11 @@ fn check_image(
 }
 
 /// All files of a run stand in the folder.
-fn check_files(rt: &impl Abort, folder: &MemoryFolder, ran: &Ran<Global>) -> Result<(), Fail> {
+pub(crate) fn check_files(
+    rt: &impl Abort,
+    folder: &MemoryFolder,
+    ran: &Ran<Global>,
+) -> Result<(), Fail> {
     check_image(rt, folder, 0, ran.core.opening())?;
     for (place, image) in ran.images.iter().enumerate() {
         check_image(rt, folder, place + 1, image)?;
@@ -142,11 +160,7 @@ fn made_in<R: Abort>(
     ran: &Ran<Global>,
     room: usize,
 ) -> Result<(bool, usize), Fail> {
-    let mut folder = MemoryFolder {
-        alloc,
-        made: Vec::new(alloc),
-        room,
-    };
+    let mut folder = MemoryFolder::new(alloc, room);
     let is_written = write_run(alloc, rt, &mut folder, ran).is_ok();
     if is_written {
         check_files(rt, &folder, ran)?;
@@ -154,13 +168,27 @@ fn made_in<R: Abort>(
     Ok((is_written, folder.made.len()))
 }
 
-/// Files are made in their order until there is no room for one.
+/// Of folders with room for 0 to 4 files, in how many files are made in their order until there is no room for
+/// one.
+fn count_filled<R: Abort>(rt: &R, alloc: Global, ran: &Ran<Global>) -> Result<usize, Fail> {
+    let mut filled = 0usize;
+    for room in 0..=4 {
+        if made_in(rt, alloc, ran, room)? == (room == 4, room) {
+            filled = filled.saturating_add(1);
+        }
+    }
+    Ok(filled)
+}
+
+fn filled<R: Abort + AllocGlobal>(rt: &R) -> Result<usize, Fail> {
+    let ran = check_over(rt, "run", SCRIPT, "'a #1\n", ANSWERS)?;
+    let filled = count_filled(rt, rt.alloc(), &ran);
+    drop(ran);
+    filled
+}
+
 #[test]
 fn files_in_memory(rt: HostRuntime) -> Result<(), Fail> {
-    let ran = check_over(&rt, "run", SCRIPT, "'a #1\n", ANSWERS)?;
-    for room in 0..=4 {
-        let made = made_in(&rt, rt.alloc(), &ran, room)?;
-        assert_eq!(rt; made, (room == 4, room));
-    }
+    assert_eq!(rt; filled(&rt)?, 5);
     Ok(())
 }

@@ -15,8 +15,8 @@ use std::sync::atomic::{AtomicBool, Ordering};
 use std::test::Fail;
 use std::thread::{self, Threads};
 use steps::Core;
-use view::{Looker, Naming, Opened, Seen, open_view};
-use workers::{Open, Report, Script, Share, gather, run_all};
+use view::{Looker, Naming, Opened, Publisher, Seen, open_view};
+use workers::{NotRun, Open, Report, Script, Share, gather, run_all};
 
 /// A core whose table has the key, and whose only procedure adds 1 to the number at a key.
 fn open_core(alloc: Global, key: Key) -> Result<Core<Global>, Fail> {
@@ -84,6 +84,25 @@ fn watch<J: Naming, R: Wait>(
     unreachable!()
 }
 
+/// What a run leaves, and the publisher.
+fn left_of<'a, J: Naming, R: Wait>(
+    report: Report<J, &'a R, Global>,
+) -> (Left, Publisher<J, &'a R, Global>) {
+    let Report {
+        core,
+        shares,
+        images,
+        publisher,
+        ..
+    } = report;
+    let left = Left {
+        core,
+        shares,
+        images,
+    };
+    (left, publisher)
+}
+
 /// Runs the scripts beside two checkpoints and a reader: what the reader saw last, and what the run leaves.
 fn serve<J: Naming + Send + Sync, R: Threads + Wait + Sync>(
     rt: &R,
@@ -104,22 +123,12 @@ fn serve<J: Naming + Send + Sync, R: Threads + Wait + Sync>(
         let ran = run_all(rt, alloc, core, scripts, &kinds, publisher, &Open);
         ended.store(true, Ordering::Release);
         match ran {
-            Ok(report) => {
-                let Report {
-                    core,
-                    shares,
-                    images,
-                    publisher,
-                    ..
-                } = report;
-                let left = Left {
-                    core,
-                    shares,
-                    images,
-                };
-                Some((left, publisher))
+            Ok(report) => Some(left_of(report)),
+            Err(NotRun { core, publisher }) => {
+                drop(core);
+                drop(publisher);
+                None
             }
-            Err(_) => None,
         }
     };
     let (last, ran) = thread::join(rt, reader, run);
@@ -166,8 +175,11 @@ fn served(rt: HostRuntime) -> Result<(), Fail> {
         images,
     } = left;
     // Each answer is a call of the log, and each call has its answer.
-    gather(alloc, core.records(), shares)?;
-    let (hits, again) = recovered(alloc, &core, images.as_slice(), key)?;
+    let gathered = gather(alloc, core.records(), shares);
+    let recovered = recovered(alloc, &core, images.as_slice(), key);
+    drop(core);
+    let (hits, again) = recovered?;
+    gathered?;
     // The number that the reader saw last, and the calls after that checkpoint.
     let counted = last.and_then(|number| number.checked_add(again as u64));
     assert_eq!(rt; (hits, counted), (Some(2_000), Some(2_000)));

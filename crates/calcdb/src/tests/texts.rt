@@ -174,23 +174,28 @@ abcdefghijklmnopqrstuvwxyz0123456 = false
 
 /// Command lines, and what they ask for, or why they ask for nothing.
 const COMMAND_LINES: &str = "\
-calcdb run a = Run(RunFiles { script: \"a\", opening: None, folder: None, threads: false, progress: false })
-calcdb run a --open b --out c = Run(RunFiles { script: \"a\", opening: Some(\"b\"), folder: Some(\"c\"), threads: false, progress: false })
-calcdb run --out=c a = Run(RunFiles { script: \"a\", opening: None, folder: Some(\"c\"), threads: false, progress: false })
-calcdb run --threads a --out c = Run(RunFiles { script: \"a\", opening: None, folder: Some(\"c\"), threads: true, progress: false })
+calcdb run a = Run(RunFiles { script: \"a\", opening: None, folder: None, live: false, sync: false, threads: false, progress: false })
+calcdb run a --open b --out c = Run(RunFiles { script: \"a\", opening: Some(\"b\"), folder: Some(\"c\"), live: false, sync: false, threads: false, progress: false })
+calcdb run --out=c a = Run(RunFiles { script: \"a\", opening: None, folder: Some(\"c\"), live: false, sync: false, threads: false, progress: false })
+calcdb run --threads a --out c = Run(RunFiles { script: \"a\", opening: None, folder: Some(\"c\"), live: false, sync: false, threads: true, progress: false })
 calcdb run a -- --threads = UnknownArgument
 calcdb run a --threads --threads = ArgumentConflict
 calcdb run a --threads=b = TooManyValues
-calcdb run --open=b -- --out = Run(RunFiles { script: \"--out\", opening: Some(\"b\"), folder: None, threads: false, progress: false })
+calcdb run --open=b -- --out = Run(RunFiles { script: \"--out\", opening: Some(\"b\"), folder: None, live: false, sync: false, threads: false, progress: false })
 calcdb load a b = Load { pairs: \"a\", out: \"b\", progress: false }
 calcdb merge a b = Merge { out: \"a\", images: [\"b\"], progress: false }
 calcdb merge a d c d = Merge { out: \"a\", images: [\"d\", \"c\", \"d\"], progress: false }
 calcdb recover a b c e d = Recover { script: \"a\", log: \"b\", out: \"c\", images: [\"e\", \"d\"], progress: false }
-calcdb run - = Run(RunFiles { script: \"-\", opening: None, folder: None, threads: false, progress: false })
-calcdb run --progress a --threads = Run(RunFiles { script: \"a\", opening: None, folder: None, threads: true, progress: true })
+calcdb run - = Run(RunFiles { script: \"-\", opening: None, folder: None, live: false, sync: false, threads: false, progress: false })
+calcdb run --progress a --threads = Run(RunFiles { script: \"a\", opening: None, folder: None, live: false, sync: false, threads: true, progress: true })
 calcdb load --progress - b = Load { pairs: \"-\", out: \"b\", progress: true }
 calcdb merge a b --progress c = Merge { out: \"a\", images: [\"b\", \"c\"], progress: true }
 calcdb recover a b c e --progress = Recover { script: \"a\", log: \"b\", out: \"c\", images: [\"e\"], progress: true }
+calcdb run a --live --out b = Run(RunFiles { script: \"a\", opening: None, folder: Some(\"b\"), live: true, sync: false, threads: false, progress: false })
+calcdb run a --sync --live --out b = Run(RunFiles { script: \"a\", opening: None, folder: Some(\"b\"), live: true, sync: true, threads: false, progress: false })
+calcdb run a --live = ArgumentConflict
+calcdb run a --out b --sync = ArgumentConflict
+calcdb run a --out b --live --threads = ArgumentConflict
 calcdb show a = Show { file: \"a\" }
 calcdb = DisplayHelpOnMissingArgumentOrSubcommand
 calcdb stop = InvalidSubcommand
@@ -328,7 +333,7 @@ fn texts(rt: HostRuntime) -> Result<(), Fail> {
         (Reading::Pairs, PAIRS, 20),
         (Reading::Value, VALUES, 9),
         (Reading::Name, NAMES, 7),
-        (Reading::Words, COMMAND_LINES, 34),
+        (Reading::Words, COMMAND_LINES, 39),
     ] {
         assert_eq!(rt; table.lines().count(), count);
         check_all(&rt, rt.alloc(), how, table)?;

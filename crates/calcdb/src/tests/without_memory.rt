@@ -204,7 +204,9 @@ fn core_lends<A: Allocator + Copy>(alloc: A, heap: &Fallible<Global>) -> Result<
     let key = key()?;
     let core = opened(alloc, "'a #1")?;
     heap.arm(EVERY);
-    Ok(lends(&core, &key) && shown(&core) == (Phase::Rest, 8, 1))
+    let lends = lends(&core, &key) && shown(&core) == (Phase::Rest, 8, 1);
+    drop(core);
+    Ok(lends)
 }
 
 #[test]

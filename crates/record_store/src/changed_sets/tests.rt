@@ -65,7 +65,7 @@ fn frozen_in_byte_order(rt: HostRuntime) -> Result<(), Fail> {
 }
 
 /// Which of three keys are collected, and which are frozen.
-fn seen(changed: &Changed<Global>) -> Result<[[bool; 3]; 2], Fail> {
+fn seen(changed: &mut Changed<Global>) -> Result<[[bool; 3]; 2], Fail> {
     let (a, b, c) = (key(b"a")?, key(b"b")?, key(b"c")?);
     Ok([
         [

@@ -89,7 +89,7 @@ module _ {A : Type 0} where
               subst (λ (k : Option (OpenCall A)). SameCall k (machine.restarted_open (ok.world.calls s)))
               (sym (ap (λ (l : List (Option (OpenCall A))). slice_index_or l s None) calls_are ∙ get_or-map (option_map restarted_call) c.calls.items s None))
               (same_restarted (call_at c s) (ok.world.calls s) (ok.stands.calls s));
-          versions = λ q. ap cleaned_versions (ok.stands.versions q) ∙ sym (rested_versions c ok log c.store q) ∙ ap (λ (l : Slots). versions_in l q) (sym store_is);
+          versions = λ q. ap cleaned_versions (ok.stands.versions q) ∙ sym (rested_versions c.store q) ∙ ap (λ (l : Slots). versions_in l q) (sym store_is);
           collecting = λ q.
               ap (λ b. b || ok.world.collecting q) (ok.stands.frozen q) ∙ ap (λ b. has c.changed.frozen q || b) (ok.stands.collecting q)
               ∙ sym (ap (λ (s : KeySet). has s q) collecting ∙ has-union c.changed.collecting c.changed.frozen q);

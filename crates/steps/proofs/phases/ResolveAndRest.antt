@@ -44,6 +44,15 @@ before_capture n m h = refl
 pub none_in_empty : (q : Bytes) → has empty_set q ≡ false
 none_in_empty q = ap is_some (fin.get-empty (slice_cmp nat_cmp) q)
 
+rested_as : (o : Option stored.Version) → option_map key_versions (option_map stored.rested o) ≡ cleaned_versions (option_map key_versions o)
+rested_as None = refl
+rested_as (Some v) = refl
+
+-- the versions at rest
+pub rested_versions : (slots : Slots) (q : Bytes) → versions_in (map (option_map record_at_rest) slots) q ≡ cleaned_versions (versions_in slots q)
+unfolding versions_in
+rested_versions slots q = ap (option_map key_versions) (version_of-rested slots q) ∙ rested_as (stored.version_of slots q)
+
 module _ {A : Type 0} (c : Inside A) (ok : IsCore c) (log : Log) where
   pub number_here : (p : Phase) → log.records ≡ c.log.records ++ Token p c.checkpoint.number ∷ [] → log.records ≡ c.log.records ++ Token p ok.world.number ∷ []
   number_here p log_is = log_is ∙ ap (λ n. c.log.records ++ Token p n ∷ []) (sym ok.stands.checkpoint.number)
@@ -103,15 +112,6 @@ module _ {A : Type 0} (c : Inside A) (ok : IsCore c) (log : Log) where
 
     pub resolve_view : (v : CoreView) → view_of c ≡ v → view_of after_resolve ≡ entered v Resolve
     resolve_view v same = ap (λ l. record (view_of c) { log = l }) (entered_log Resolve log_is) ∙ ap (λ w. entered w Resolve) same
-
-  rested_as : (o : Option stored.Version) → option_map key_versions (option_map stored.rested o) ≡ cleaned_versions (option_map key_versions o)
-  rested_as None = refl
-  rested_as (Some v) = refl
-
-  -- the versions at rest
-  pub rested_versions : (slots : Slots) (q : Bytes) → versions_in (map (option_map record_at_rest) slots) q ≡ cleaned_versions (versions_in slots q)
-  unfolding versions_in
-  rested_versions slots q = ap (option_map key_versions) (version_of-rested slots q) ∙ rested_as (stored.version_of slots q)
 
   module _ (store : Slots) (phase_is : c.phase ≡ Complete) (free : is_held Complete (view_of c).calls ≡ false) (log_is : log.records ≡ c.log.records ++ Token Rest c.checkpoint.number ∷ [])
       (store_is : store ≡ map (option_map record_at_rest) c.store) where

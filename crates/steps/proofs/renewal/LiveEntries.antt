@@ -1,7 +1,9 @@
 -- The entries that a new opening has of the records of a store.
-use Rattle.std.proofs.Common.{◌≡◌, ℕ, ◌+◌, ◌<◌, ◌≤◌, cond, List, [], ◌∷◌, ◌++◌, length, Option, Some, None, Vec, option_map, inl, inr, refl, sym, ap, ◌∙◌, subst, arith, below_more}
+use Rattle.std.proofs.Common.{◌≡◌, ℕ, ◌+◌, ◌<◌, ◌≤◌, Bool, true, false, cond, List, [], ◌∷◌, ◌++◌, length, take}
+use Rattle.std.proofs.Common.{Option, Some, None, is_some, Vec, option_map, inl, inr, refl, sym, ap, ◌∙◌, subst, arith, below_more}
 use Rattle.std.proofs.lemmas.Bool.{cases_lt}
-use Rattle.std.proofs.lemmas.List.{get_or_past}
+use Rattle.std.proofs.lemmas.List.{get_or_past, take_all}
+use Rattle.std.proofs.lemmas.List.Sums.{count_by_more_no, count_by_more_yes}
 use Rattle.std.specs.Cmp.Lexicographic.{nat_list_cmp_total}
 use Rattle.std.specs.FinMap as fin
 use Rattle.procedure.specs.Bytes.{Bytes, Cell, same}
@@ -12,7 +14,7 @@ use Rattle.image.proofs.Sorting.{map_of-push, once-push}
 use Rattle.image.specs.Headers.{EachKeyOnce, map_of}
 use Rattle.image.specs.Images.{Entry}
 use Rattle.record_store.proofs.Versions.{no_key, version_some}
-use Rattle.record_store.specs.Stores.{HasKeysOnce, Slots, StoreRecord, key_at, record_at}
+use Rattle.record_store.specs.Stores.{HasKeysOnce, Slots, StoreRecord, is_live, key_at, live_count, record_at}
 use Rattle.record_store.specs.Versions as stored
 use Rattle.steps.specs.Versions.{key_versions, live_version, versions_in}
 use Rattle.steps.specs.inside.LiveEntries.{live_entry}
@@ -135,3 +137,26 @@ all_gathered slots i es most g q = by (stored.version_of slots q) refl
         ∙ g.here held.slot (within held.slot held.kept held.there) held.kept held.there
         ∙ ap (λ (w : stored.Version). shown w.live) held.version_is
         ∙ sym (ap (λ (o : Option stored.Version). shown (live_version (option_map key_versions o))) is)
+
+-- HOW MANY THERE ARE
+
+shown_live : (k : Bytes) (x : Cell) → is_some x ≡ is_some {T = Entry} (option_map (λ b. (k, Some b)) x)
+shown_live k None = refl
+shown_live k (Some b) = refl
+
+same_live : (o : Option StoreRecord) (d : Option Entry) → d ≡ live_entry o → is_live o ≡ is_some d
+same_live None d e = sym (ap is_some e)
+same_live (Some r) d e = shown_live r.key r.live ∙ sym (ap is_some e)
+
+-- one slot more
+pub more_counted :
+    (slots : Slots) (i n : ℕ) (d : Option Entry) → i < length slots → d ≡ live_entry (record_at slots i) → n ≡ live_count (take i slots) →
+    n + cond (is_some d) 1 0 ≡ live_count (take (i + 1) slots)
+more_counted slots i n d lt e is = by (is_some d) (same_live (record_at slots i) d e)
+  where
+    by : (b : Bool) → is_live (record_at slots i) ≡ b → n + cond b 1 0 ≡ live_count (take (i + 1) slots)
+    by true live = omega (arith, is, count_by_more_yes is_live slots i None lt live)
+    by false dead = omega (arith, is, count_by_more_no is_live slots i None lt dead)
+
+pub all_counted : (slots : Slots) (i n : ℕ) → length slots ≤ i → n ≡ live_count (take i slots) → n ≡ live_count slots
+all_counted slots i n most is = is ∙ ap live_count (take_all i slots most)

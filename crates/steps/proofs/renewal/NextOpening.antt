@@ -77,16 +77,16 @@ module _ {A : Type 0} (c : Inside A) (ok : IsCore c) (v : CoreView) (same : view
       subst (λ (l : List Record). fin.len (after v.catalog (table_of v.opening) l) ≤ STORE_RECORDS) (take_all k v.log le)
       (subst (λ (w : CoreView). fin.len (after w.catalog (table_of w.opening) (take k w.log)) ≤ STORE_RECORDS) same (ok.small k))
 
-  module _ (free : renew_refusal v ≡ None) (es : List Entry) (holds : (q : Bytes) → change_at (map_of es) q ≡ shown (live_version (versions_in c.store q))) where
-    -- what is live is what the table holds
-    live_is : (q : Bytes) → live_version (versions_in c.store q) ≡ value_at (table_now v) q
-    live_is q =
-        ap live_version (sym (ok.stands.versions q))
-        ∙ (good c ok).lives.table q (λ s o is. none_some (sym (none_open c ok s (none_open_at c ok v same free s)) ∙ is))
-        ∙ ap (λ t. value_at t q) (now_is c ok ∙ ap table_now same)
+  -- what is live is what the table holds
+  pub live_is : renew_refusal v ≡ None → (q : Bytes) → live_version (versions_in c.store q) ≡ value_at (table_now v) q
+  live_is free q =
+      ap live_version (sym (ok.stands.versions q))
+      ∙ (good c ok).lives.table q (λ s o is. none_some (sym (none_open c ok s (none_open_at c ok v same free s)) ∙ is))
+      ∙ ap (λ t. value_at t q) (now_is c ok ∙ ap table_now same)
 
+  module _ (free : renew_refusal v ≡ None) (es : List Entry) (holds : (q : Bytes) → change_at (map_of es) q ≡ shown (live_version (versions_in c.store q))) where
     pub next_is : of_captured Full 0 0 0 es ≡ next_opening v
-    next_is = captured_is es (table_now v) (λ q. holds q ∙ ap shown (live_is q))
+    next_is = captured_is es (table_now v) (λ q. holds q ∙ ap shown (live_is free q))
 
     pub next_lawful : IsLawfulImage (of_captured Full 0 0 0 es)
     next_lawful =

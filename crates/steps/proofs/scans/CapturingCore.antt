@@ -387,6 +387,16 @@ module _ {A : Type 0} where
     roomy_scan_view v same store e =
         ap (λ (s : Slots). record (view_of c) { slots = s }) e ∙ same
 
+-- before a scan the list of what it captures says nothing
+module _ {A : Type 0} (c : Inside A) (ok : IsCore c) (kept : Vec (Bytes × Cell) A) where
+  pub listed_core : c.phase ≡ Resolve → IsCore (record c { checkpoint = record c.checkpoint { captured = kept } })
+  listed_core phase_is =
+      stored_core c ok c.store c.aside (record c.checkpoint { captured = kept }) ok.world.versions ok.world.given ok.world.visited refl refl refl refl ok.run ok.stands.versions
+      (subst
+      (λ p. ScansIn p (record c.checkpoint { captured = kept }) (spots c.checkpoint.kind c.store c.changed.frozen) ok.world.visited ok.world.bound ok.world.given)
+      (sym (ok.stands.phase ∙ phase_is)) tt)
+      ok.stands.checkpoint.waits ok.stands.checkpoint.heads ok.stands.checkpoint.none_yet ok.aside
+
 -- NOTHING IS SENT
 
 module _ {A : Type 0} (c : Inside A) (ok : IsCore c) (store : Slots) (given : Given (Bytes × Cell)) (tally : Tally) (store_is : store ≡ c.store) (given_is : given ≡ c.checkpoint.given)

@@ -118,8 +118,8 @@ module _ {A : Type 0} (c : Inside A) (ok : IsCore c) (phase_is : c.phase ≡ Cap
   made = image_at c.checkpoint c.checkpoint.given.entries
 
   -- a list that was the captured one has what was given
-  pub all_given : c.checkpoint.way ≡ Whole → (v : Vec (Bytes × Cell) A) → v ≡ c.checkpoint.captured → v.items ≡ c.checkpoint.given.entries
-  all_given way v e = ap (λ (u : Vec (Bytes × Cell) A). u.items) e ∙ (scan_here c ok phase_is).captured way
+  pub all_given : c.checkpoint.way ≡ Whole → (v : Vec (Bytes × Cell) A) → v.items ≡ c.checkpoint.captured.items → v.items ≡ c.checkpoint.given.entries
+  all_given way v e = e ∙ (scan_here c ok phase_is).captured way
 
   cutting : is_cutting c.phase ≡ true
   cutting = ap is_cutting phase_is

@@ -11,11 +11,11 @@ use Rattle.phase.specs.declared.phases.Phase.{Phase}
 use Rattle.phase.specs.declared.phases.Phase.TheVariants.{Rest, Prepare, Resolve, Capture, Complete}
 use Rattle.record_store.specs.Stores.{StoreRecord, Slots, HasKeysOnce, Finds, changed, record_at, live_at, new_record, with_record, with_live, with_stable, with_copy, with_available, with_aside}
 use Rattle.record_store.specs.Versions as stored
-use Rattle.record_store.proofs.Versions.{version_of-aside, version_of-changed, version_of-created, version_none, version_found, record_found, finds_record, once_created}
+use Rattle.record_store.proofs.Versions.{no_key, version_of-aside, version_of-changed, version_of-created, version_none, version_found, record_found, finds_record, once_created}
 use Rattle.record_store.proofs.Making.{at_with_here}
 use Rattle.record_store.specs.declared.records.Stable.TheVariants.{Empty}
 use Rattle.steps.specs.Versions.{KeyVersions, VersionsByKey, copied, copied_late, undone, undone_key, kept, kept_key, wrote, live_version, is_late, cell_of, key_versions, versions_in, Noted}
-use Rattle.steps.specs.inside.RecordEdits.{stored_stable, with_version, edited, written_versions, first_noted, all_undone, all_kept, undone_version, is_available, available_at}
+use Rattle.steps.specs.inside.RecordEdits.{IsFound, stored_stable, with_version, edited, written_versions, first_noted, all_undone, all_kept, undone_version, is_available, available_at}
 
 pub changed_twice : (f g : StoreRecord → StoreRecord) (slots : Slots) (i : ℕ) → changed g (changed f slots i) i ≡ changed (λ r. g (f r)) slots i
 changed_twice f g [] i = refl
@@ -64,6 +64,18 @@ found_in slots i key once finds =
 pub none_in : (slots : Slots) (key : Bytes) → Finds slots key None → versions_in slots key ≡ None
 unfolding versions_in
 none_in slots key finds = ap (option_map key_versions) (version_none slots key finds)
+
+-- a key without a version has no record
+pub none_found : (slots : Slots) (key : Bytes) → HasKeysOnce slots → versions_in slots key ≡ None → IsFound slots key None
+unfolding versions_in
+none_found slots key once none = record {
+  finds = record { only = λ slot. (λ e. absurd (cc), λ at. absurd (no_key slots key (unmapped (stored.version_of slots key) none) slot at)) };
+  once = once;
+}
+  where
+    unmapped : (o : Option stored.Version) → option_map key_versions o ≡ None → o ≡ None
+    unmapped None e = refl
+    unmapped (Some v) e = absurd (cc)
 
 pub live_in : (slots : Slots) (i : ℕ) (key : Bytes) → HasKeysOnce slots → Finds slots key (Some i) → live_at slots i ≡ live_version (versions_in slots key)
 live_in slots i key once finds =

@@ -12,5 +12,7 @@ returns c =
     let two = argument_added _ _ _ _ _ c.in_ok-arg-2.ensures c.flagged.ensures.rule c.flagged.ensures.local one in
     let three = argument_added _ _ _ _ _ c.in_ok-arg-3.ensures (c.written.ensures.rule ∙ ap written c.flagged-2.ensures.rule) (c.written.ensures.local ∙ c.flagged-2.ensures.local) two in
     let four = argument_added _ _ _ _ _ c.in_ok-arg-4.ensures c.switched.ensures.rule c.switched.ensures.local three in
-    let done = IfOk-weaker c.arg-5.result _ _ (λ r h. argument_added _ _ _ _ _ h c.progress_flag.ensures.rule c.progress_flag.ensures.local four) c.arg-5.ensures in
-    record { app = IfOk-weaker c.arg-5.result _ _ (λ r h. h.0) done; local = IfOk-weaker c.arg-5.result _ _ (λ r h. h.1) done }
+    let five = argument_added _ _ _ _ _ c.in_ok-arg-5.ensures c.switched-2.ensures.rule c.switched-2.ensures.local four in
+    let six = argument_added _ _ _ _ _ c.in_ok-arg-6.ensures c.switched-3.ensures.rule c.switched-3.ensures.local five in
+    let done = IfOk-weaker c.arg-7.result _ _ (λ r h. argument_added _ _ _ _ _ h c.progress_flag.ensures.rule c.progress_flag.ensures.local six) c.arg-7.ensures in
+    record { app = IfOk-weaker c.arg-7.result _ _ (λ r h. h.0) done; local = IfOk-weaker c.arg-7.result _ _ (λ r h. h.1) done }

@@ -1,8 +1,7 @@
 use Rattle.std.proofs.Common.{subst}
 use Rattle.std.proofs.lemmas.Result.{err_from_is_err_and}
 use Rattle.calcdb.specs.Merging.{HasTaken}
-use Rattle.calcdb.proofs.FileReadings.{read_given}
-use Rattle.calcdb.proofs.Merges.{taken, taken_refused, taken_unread}
+use Rattle.calcdb.proofs.Merges.{read_given, taken, taken_refused, taken_unread}
 use Rattle.calcdb.proofs.merge_files.with_file.Goals as goal
 
 pub returns-in_err-merger : goal.returns-in_err-merger

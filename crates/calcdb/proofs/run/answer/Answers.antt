@@ -1,4 +1,4 @@
-use Rattle.std.proofs.Common.{subst}
+use Rattle.std.proofs.Common.{length, subst}
 use Rattle.std.proofs.KnownBytes.{Appends-nil}
 use Rattle.procedure.specs.Bytes.{Bytes}
 use Rattle.calcdb.specs.Journals.{Taken}
@@ -27,7 +27,7 @@ returns-in-Err g c =
       c.carry_out-shown.ensures,
       Appends-nil (g.W.Write.contents c.args.writer.now),
       tt,
-      λ start has. subst (λ (t : Taken). g.J.Journal.HasFront start c.keep.new.journal t) all (c.in-Err.ensures.err start _ has),
+      λ start has. subst (λ (t : Taken). g.J.Journal.HasFront start c.keep.new.journal t (length old.log)) all (c.in-Err.ensures.err start _ has),
     )
 
 pub returns-in-Err-write_shown : goal.returns-in-Err-write_shown

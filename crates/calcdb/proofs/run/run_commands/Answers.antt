@@ -1,4 +1,4 @@
-use Rattle.std.proofs.Common.{◌≡◌, List, [], ◌∷◌, ◌++◌, arith, sym, ap, subst, ◌∙◌, append_assoc}
+use Rattle.std.proofs.Common.{◌≡◌, List, [], ◌∷◌, ◌++◌, length, arith, sym, ap, subst, ◌∙◌, append_assoc}
 use Rattle.std.specs.Vec.Iter.{into_iter_items}
 use Rattle.std.proofs.KnownBytes.{Appends-trans}
 use Rattle.std.proofs.lemmas.List.{append-nil, nil_from_length}
@@ -62,7 +62,7 @@ returns-in_err-answer-clause-err g c = λ start has.
     let this = subst (λ k. Carried {A = g.row.A.Denot} (Carries k d) core new a.0 a.1) i.catalog a.2 in
     let p = err_from_is_err_and c.from_residual.result c.from_residual.ensures.1 in
     let s = c.in_err-answer.field-0.0 in
-    let kept = subst (λ (l : Images). IsKept {F = g.row.J-Failure.Denot} (Rattle.std.proofs.Common.Err s) (g.J.Journal.Has start c.answer.new.journal (taken_of new (l ++ a.1))) (g.J.Journal.HasFront start c.answer.new.journal (taken_of new (l ++ a.1)))) c.reserve.ensures.items
+    let kept = subst (λ (l : Images). IsKept {F = g.row.J-Failure.Denot} (Rattle.std.proofs.Common.Err s) (g.J.Journal.Has start c.answer.new.journal (taken_of new (l ++ a.1))) (g.J.Journal.HasFront start c.answer.new.journal (taken_of new (l ++ a.1)) (length core.log))) c.reserve.ensures.items
     (a.5 start (subst (λ (l : Images). g.J.Journal.Has start c.loop-command.journal (taken_of core l)) (sym c.reserve.ensures.items) (i.kept start has))) in
     let parts = i.parts ∙ ap (λ (l : List (Command (List Bytes))). i.front ++ l) h.0 in
     rw (p.1, p.2)

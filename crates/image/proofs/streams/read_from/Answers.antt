@@ -1,10 +1,10 @@
-use Rattle.std.proofs.Common.{refl, sym, subst, ◌∙◌, inl, inr}
+use Rattle.std.proofs.Common.{◌≡◌, refl, sym, subst, ◌∙◌, inl, inr}
 use Rattle.procedure.specs.Bytes.{Bytes}
 use Rattle.image.specs.Refusals.{IsAnswer}
 use Rattle.image.specs.declared.errors.ReadError.TheVariants as refused
-use Rattle.image.specs.Streams.{IsAnswerFrom, IsUnread, TellsFrom}
+use Rattle.image.specs.Streams.{IsAnswerFrom, TellsFrom, unread_as}
 use Rattle.image.specs.declared.streams.ReadFromError.TheVariants as read_refused
-use Rattle.image.proofs.Arrivals.{all_read, image_read, image_told, refusal_is, refusal_read, tells_unread, unread}
+use Rattle.image.proofs.Arrivals.{all_read, image_read, image_told, is_unread, refusal_is, refusal_read, tells_unread, unread}
 use Rattle.image.proofs.Results.{err_of, err_with}
 use Rattle.image.proofs.streams.read_from.Goals as goal
 
@@ -30,11 +30,13 @@ pub returns-in_err-text-clause-answer : goal.returns-in_err-text-clause-answer
 returns-in_err-text-clause-answer g c =
     let old = g.R.Read.remaining c.args.reader.now in
     let new = g.R.Read.remaining c.read_all.new.reader in
-    err_with (IsAnswerFrom old new) IsUnread (unread old new) c.from_residual-in_err-text.result c.from_residual-in_err-text.ensures.1
+    let u = c.in_err-text.field-0.0 in
+    err_with (IsAnswerFrom old new) (λ e. e ≡ unread_as u) (λ e is. unread old new e (is_unread u e is)) c.from_residual-in_err-text.result c.from_residual-in_err-text.ensures.1
 
 pub returns-in_err-text-clause-exact : goal.returns-in_err-text-clause-exact
 returns-in_err-text-clause-exact g c = λ text answer known h.
-    err_with (λ r. TellsFrom r answer) IsUnread (tells_unread answer) c.from_residual-in_err-text.result c.from_residual-in_err-text.ensures.1
+    let u = c.in_err-text.field-0.0 in
+    err_with (λ r. TellsFrom r answer) (λ e. e ≡ unread_as u) (λ e is. tells_unread answer e (is_unread u e is)) c.from_residual-in_err-text.result c.from_residual-in_err-text.ensures.1
 
 pub returns-in-Ok-clause-answer : goal.returns-in-Ok-clause-answer
 returns-in-Ok-clause-answer g c =

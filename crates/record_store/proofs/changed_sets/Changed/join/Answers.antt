@@ -19,6 +19,7 @@ invariant_of-self g c =
     let room = subst (λ (s : ChangedSets). HasRoomFor s c.args.key) (sym c.self.view_is) c.requires in
     record {
       in_order = c.self.invariant.in_order;
+      distinct = c.self.invariant.distinct;
       unique = c.add_key.ensures.unique;
       within = joined_within (list_any (pointwise nat_eq c.args.key) keys) _ _ _ _ c.add_key.ensures.len (count-set_of keys c.self.invariant.unique) c.self.invariant.within
           (λ absent. room (has-set_of keys c.args.key ∙ absent));

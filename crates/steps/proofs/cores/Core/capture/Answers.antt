@@ -1,4 +1,6 @@
 use Rattle.std.proofs.Common.{inl, inr, refl}
+use Rattle.steps.specs.inside.Spots.{key_of_spot}
+use Rattle.steps.proofs.scans.Spots.{once_there, same_changed}
 use Rattle.steps.proofs.scans.CapturingCore.{visit_by, capture_core, capture_view, roomy_scan}
 use Rattle.steps.proofs.phases.CheckpointRefusals.{capture_elsewhere, capture_free, capture_streamed}
 use Rattle.steps.proofs.cores.Core.capture.Goals as goal
@@ -31,7 +33,9 @@ returns-then-is_err-clause-refusal g c =
     inr (capture_free c.self.inside c.self.invariant c.args.self.now c.self.view_is c.in-Capture.is c.in-Whole.is, refl)
 
 pub invariant_of-self-in-Err : goal.invariant_of-self-in-Err
-invariant_of-self-in-Err g c = roomy_scan c.self.inside c.self.invariant c.reserve.new.self c.reserve.ensures.items c.visit.new.store c.in-Err.ensures.err
+invariant_of-self-in-Err g c =
+    same_changed _ c.spot_at-spot.new.changed c.spot_at-spot.ensures.same
+    (roomy_scan c.self.inside c.self.invariant c.reserve.new.self c.reserve.ensures.items c.visit.new.store c.in-Err.ensures.err)
 
 pub returns-in-Err-clause-refusal : goal.returns-in-Err-clause-refusal
 returns-in-Err-clause-refusal g c =
@@ -39,17 +43,22 @@ returns-in-Err-clause-refusal g c =
 
 pub invariant_of-self-2 : goal.invariant_of-self-2
 invariant_of-self-2 g c =
-    capture_core c.self.inside c.self.invariant c.visit.new.store c.keep.new.captured c.keep.new.given c.self.inside.checkpoint.tally c.key_at_place-key.result
-    (visit_by c.self.inside c.self.invariant c.visit.new.store c.keep.new.captured c.keep.new.given c.self.inside.checkpoint.tally c.key_at_place-key.result c.reserve.new.self.items c.in-Ok.held c.in-Whole.is c.in-Capture.is c.if-self.false
-    c.key_at_place-key.ensures
-    c.in-Ok.ensures.once c.in-Ok.ensures.slots c.in-Ok.ensures.keys c.in-Ok.ensures.aside c.in-Ok.ensures.versions c.keep.ensures.captured c.keep.ensures.given c.reserve.ensures.items c.in-Ok.ensures.given)
+    same_changed _ c.spot_at-spot.new.changed c.spot_at-spot.ensures.same
+    (capture_core c.self.inside c.self.invariant c.visit.new.store c.keep.new.captured c.keep.new.given c.self.inside.checkpoint.tally (key_of_spot c.spot_at-spot.result)
+    (visit_by c.self.inside c.self.invariant c.visit.new.store c.keep.new.captured c.keep.new.given c.self.inside.checkpoint.tally (key_of_spot c.spot_at-spot.result)
+    c.reserve.new.self.items c.in-Ok.held c.in-Whole.is c.in-Capture.is c.if-self.false
+    c.spot_at-spot.ensures.key
+    (once_there c.self.inside.store c.spot_at-spot.result c.spot_at-spot.ensures.found) c.in-Ok.ensures.slots c.in-Ok.ensures.keys c.in-Ok.ensures.aside c.in-Ok.ensures.versions
+    c.keep.ensures.captured c.keep.ensures.given c.reserve.ensures.items c.in-Ok.ensures.given))
 
 pub returns-clause-captured : goal.returns-clause-captured
 returns-clause-captured g c =
-    capture_view c.self.inside c.self.invariant c.visit.new.store c.keep.new.captured c.keep.new.given c.self.inside.checkpoint.tally c.key_at_place-key.result
-    (visit_by c.self.inside c.self.invariant c.visit.new.store c.keep.new.captured c.keep.new.given c.self.inside.checkpoint.tally c.key_at_place-key.result c.reserve.new.self.items c.in-Ok.held c.in-Whole.is c.in-Capture.is c.if-self.false
-    c.key_at_place-key.ensures
-    c.in-Ok.ensures.once c.in-Ok.ensures.slots c.in-Ok.ensures.keys c.in-Ok.ensures.aside c.in-Ok.ensures.versions c.keep.ensures.captured c.keep.ensures.given c.reserve.ensures.items c.in-Ok.ensures.given)
+    capture_view c.self.inside c.self.invariant c.visit.new.store c.keep.new.captured c.keep.new.given c.self.inside.checkpoint.tally (key_of_spot c.spot_at-spot.result)
+    (visit_by c.self.inside c.self.invariant c.visit.new.store c.keep.new.captured c.keep.new.given c.self.inside.checkpoint.tally (key_of_spot c.spot_at-spot.result)
+    c.reserve.new.self.items c.in-Ok.held c.in-Whole.is c.in-Capture.is c.if-self.false
+    c.spot_at-spot.ensures.key
+    (once_there c.self.inside.store c.spot_at-spot.result c.spot_at-spot.ensures.found) c.in-Ok.ensures.slots c.in-Ok.ensures.keys c.in-Ok.ensures.aside c.in-Ok.ensures.versions
+    c.keep.ensures.captured c.keep.ensures.given c.reserve.ensures.items c.in-Ok.ensures.given)
     c.args.self.now c.self.view_is
 
 pub returns-clause-refusal : goal.returns-clause-refusal

@@ -1,6 +1,8 @@
 use Rattle.std.proofs.Common.{◌≤◌, inl, inr, [], append-nil, refl, sym, subst, ℕ}
 use Rattle.image.specs.declared.limits.TheConstants.{ENTRIES}
 use Rattle.pipe.specs.Rings as ring
+use Rattle.steps.specs.inside.Spots.{key_of_spot}
+use Rattle.steps.proofs.scans.Spots.{once_there, same_changed}
 use Rattle.steps.proofs.scans.CapturingCore.{capture_core, capture_view, refused_to, scan_here, unsent_core, visit_to}
 use Rattle.steps.proofs.scans.CompletedImage.{few_given}
 use Rattle.steps.proofs.phases.CheckpointRefusals.{capture_to_elsewhere, capture_to_free, capture_to_whole}
@@ -22,8 +24,9 @@ returns-in-Whole-clause-refusal g c = inl (capture_to_whole c.self.inside c.self
 pub returns-then-self-clause-refusal : goal.returns-then-self-clause-refusal
 returns-then-self-clause-refusal g c = capture_to_free c.self.inside c.self.invariant c.args.self.now c.self.view_is c.in-Capture.is c.in-Streamed.is
 
-pub send_key-requires : goal.send_key-requires
-send_key-requires g c = record {
+pub send_spot-requires : goal.send_spot-requires
+send_spot-requires g c = record {
+  found = c.spot_at-spot.ensures.found;
   few =
       subst (λ (n : ℕ). n ≤ ENTRIES) (sym ((scan_here c.self.inside c.self.invariant c.in-Capture.is).count c.in-Streamed.is))
       (few_given c.self.inside c.self.invariant c.in-Capture.is c.len-records.ensures.most);
@@ -31,26 +34,33 @@ send_key-requires g c = record {
 
 pub invariant_of-self : goal.invariant_of-self
 invariant_of-self g c =
-    unsent_core c.self.inside c.self.invariant c.send_key.new.store c.send_key.new.given c.send_key.new.tally c.in-Err.ensures.err c.in-Err.ensures.refused.gave c.in-Err.ensures.refused.counted
+    same_changed _ c.spot_at-spot.new.changed c.spot_at-spot.ensures.same
+    (unsent_core c.self.inside c.self.invariant c.send_spot.new.store c.send_spot.new.given c.send_spot.new.tally c.in-Err.ensures.err c.in-Err.ensures.refused.gave c.in-Err.ensures.refused.counted)
 
 pub returns-in-Err-clause-refusal : goal.returns-in-Err-clause-refusal
 returns-in-Err-clause-refusal g c =
     inr (
       capture_to_free c.self.inside c.self.invariant c.args.self.now c.self.view_is c.in-Capture.is c.in-Streamed.is,
-      refused_to c.self.inside c.self.invariant c.in-Capture.is c.key_at_place-key.result c.key_at_place-key.ensures c.args.tap.now c.in-Err.refused c.in-Err.ensures.why c.args.self.now c.self.view_is,
+      refused_to c.self.inside c.self.invariant c.in-Capture.is (key_of_spot c.spot_at-spot.result) c.spot_at-spot.ensures.key c.args.tap.now c.in-Err.refused c.in-Err.ensures.why
+          c.args.self.now c.self.view_is,
     )
 
 pub invariant_of-self-2 : goal.invariant_of-self-2
 invariant_of-self-2 g c =
-    capture_core c.self.inside c.self.invariant c.send_key.new.store c.self.inside.checkpoint.captured c.send_key.new.given c.send_key.new.tally c.key_at_place-key.result
-    (visit_to c.self.inside c.self.invariant c.send_key.new.store c.self.inside.checkpoint.captured c.send_key.new.given c.send_key.new.tally c.key_at_place-key.result c.in-Streamed.is c.in-Capture.is
-    c.if-self.false c.key_at_place-key.ensures c.in-Ok.ensures.once c.in-Ok.ensures.slots c.in-Ok.ensures.keys c.in-Ok.ensures.aside c.in-Ok.ensures.versions c.in-Ok.ensures.sent)
+    same_changed _ c.spot_at-spot.new.changed c.spot_at-spot.ensures.same
+    (capture_core c.self.inside c.self.invariant c.send_spot.new.store c.self.inside.checkpoint.captured c.send_spot.new.given c.send_spot.new.tally (key_of_spot c.spot_at-spot.result)
+    (visit_to c.self.inside c.self.invariant c.send_spot.new.store c.self.inside.checkpoint.captured c.send_spot.new.given c.send_spot.new.tally (key_of_spot c.spot_at-spot.result)
+    c.in-Streamed.is c.in-Capture.is
+    c.if-self.false c.spot_at-spot.ensures.key (once_there c.self.inside.store c.spot_at-spot.result c.spot_at-spot.ensures.found) c.in-Ok.ensures.slots c.in-Ok.ensures.keys
+    c.in-Ok.ensures.aside c.in-Ok.ensures.versions c.in-Ok.ensures.sent))
 
 pub returns-clause-captured : goal.returns-clause-captured
 returns-clause-captured g c =
-    capture_view c.self.inside c.self.invariant c.send_key.new.store c.self.inside.checkpoint.captured c.send_key.new.given c.send_key.new.tally c.key_at_place-key.result
-    (visit_to c.self.inside c.self.invariant c.send_key.new.store c.self.inside.checkpoint.captured c.send_key.new.given c.send_key.new.tally c.key_at_place-key.result c.in-Streamed.is c.in-Capture.is
-    c.if-self.false c.key_at_place-key.ensures c.in-Ok.ensures.once c.in-Ok.ensures.slots c.in-Ok.ensures.keys c.in-Ok.ensures.aside c.in-Ok.ensures.versions c.in-Ok.ensures.sent)
+    capture_view c.self.inside c.self.invariant c.send_spot.new.store c.self.inside.checkpoint.captured c.send_spot.new.given c.send_spot.new.tally (key_of_spot c.spot_at-spot.result)
+    (visit_to c.self.inside c.self.invariant c.send_spot.new.store c.self.inside.checkpoint.captured c.send_spot.new.given c.send_spot.new.tally (key_of_spot c.spot_at-spot.result)
+    c.in-Streamed.is c.in-Capture.is
+    c.if-self.false c.spot_at-spot.ensures.key (once_there c.self.inside.store c.spot_at-spot.result c.spot_at-spot.ensures.found) c.in-Ok.ensures.slots c.in-Ok.ensures.keys
+    c.in-Ok.ensures.aside c.in-Ok.ensures.versions c.in-Ok.ensures.sent)
     c.args.self.now c.self.view_is
 
 pub returns-clause-refusal : goal.returns-clause-refusal

@@ -15,30 +15,31 @@ pub image_of-image-requires-clause-once : goal.image_of-image-requires-clause-on
 image_of-image-requires-clause-once g c =
     let way = ap (λ (v : CoreView). v.checkpoint.way) c.self.view_is ∙ c.requires.way in
     let free = advances_from c.self.inside c.self.invariant c.args.self.now c.self.view_is Capture c.requires.phase c.requires.free in
-    subst EachKeyOnce (sym (all_given c.self.inside c.self.invariant free.is way c.replace-entries.result c.replace-entries.ensures.value)) (scan_here c.self.inside c.self.invariant free.is).once
+    subst EachKeyOnce (sym (all_given c.self.inside c.self.invariant free.is way c.taken_list-entries.result c.taken_list-entries.ensures.entries)) (scan_here c.self.inside
+    c.self.invariant free.is).once
 
 pub image_of-image-requires-clause-lawful : goal.image_of-image-requires-clause-lawful
 image_of-image-requires-clause-lawful g c =
     let way = ap (λ (v : CoreView). v.checkpoint.way) c.self.view_is ∙ c.requires.way in
     let free = advances_from c.self.inside c.self.invariant c.args.self.now c.self.view_is Capture c.requires.phase c.requires.free in
-    same_lawful c.self.inside.checkpoint c.replace-entries.result.items (all_given c.self.inside c.self.invariant free.is way c.replace-entries.result c.replace-entries.ensures.value)
+    same_lawful c.self.inside.checkpoint c.taken_list-entries.result.items (all_given c.self.inside c.self.invariant free.is way c.taken_list-entries.result c.taken_list-entries.ensures.entries)
     (made_lawful c.self.inside c.self.invariant free.is c.len-records.ensures.most)
 
 pub invariant_of-self-2 : goal.invariant_of-self-2
 invariant_of-self-2 g c =
     let way = ap (λ (v : CoreView). v.checkpoint.way) c.self.view_is ∙ c.requires.way in
     let free = advances_from c.self.inside c.self.invariant c.args.self.now c.self.view_is Capture c.requires.phase c.requires.free in
-    image_core c.self.inside c.self.invariant free.is c.push_token.new.log c.clear_frozen.new.self free.scanned c.in_ok-push_token.ensures.ok c.clear_frozen.ensures c.replace-entries.new.dest
+    image_core c.self.inside c.self.invariant free.is c.push_token.new.log c.clear_frozen.new.self free.scanned c.in_ok-push_token.ensures.ok c.clear_frozen.ensures c.taken_list-entries.new.captured
     c.image_of-image.result way
-    (same_image c.self.inside.checkpoint c.replace-entries.result.items c.image_of-image.result c.image_of-image.ensures
-    (all_given c.self.inside c.self.invariant free.is way c.replace-entries.result c.replace-entries.ensures.value))
+    (same_image c.self.inside.checkpoint c.taken_list-entries.result.items c.image_of-image.result c.image_of-image.ensures
+    (all_given c.self.inside c.self.invariant free.is way c.taken_list-entries.result c.taken_list-entries.ensures.entries))
 
 pub returns-clause-ok : goal.returns-clause-ok
 returns-clause-ok g c =
     let way = ap (λ (v : CoreView). v.checkpoint.way) c.self.view_is ∙ c.requires.way in
     let free = advances_from c.self.inside c.self.invariant c.args.self.now c.self.view_is Capture c.requires.phase c.requires.free in
-    image_view c.self.inside c.self.invariant free.is c.push_token.new.log c.clear_frozen.new.self free.scanned c.in_ok-push_token.ensures.ok c.clear_frozen.ensures c.replace-entries.new.dest
+    image_view c.self.inside c.self.invariant free.is c.push_token.new.log c.clear_frozen.new.self free.scanned c.in_ok-push_token.ensures.ok c.clear_frozen.ensures c.taken_list-entries.new.captured
     c.image_of-image.result way
-    (same_image c.self.inside.checkpoint c.replace-entries.result.items c.image_of-image.result c.image_of-image.ensures
-    (all_given c.self.inside c.self.invariant free.is way c.replace-entries.result c.replace-entries.ensures.value))
+    (same_image c.self.inside.checkpoint c.taken_list-entries.result.items c.image_of-image.result c.image_of-image.ensures
+    (all_given c.self.inside c.self.invariant free.is way c.taken_list-entries.result c.taken_list-entries.ensures.entries))
     c.args.self.now c.self.view_is

@@ -21,4 +21,4 @@ returns-in-Ok-clause-number g c =
 pub returns-in-Ok-clause-value : goal.returns-in-Ok-clause-value
 returns-in-Ok-clause-value g c =
     let seen = c.new.ensures ∙ c.again.ensures ∙ c.behind-table-in-Ok.view_is ∙ c.deref-in-Ok-2.ensures in
-    subst (λ images. c.in-Ok.value ≡ value_at (shown images) c.args.key.now) (c.deref-2.ensures ∙ sym seen) c.in-Ok.ensures
+    subst (λ images. c.in-Ok.value ≡ value_at (shown images) c.args.key.now) (c.deref-2.ensures ∙ sym seen) c.in-Ok.ensures.value

@@ -1,0 +1,220 @@
+//! Entries in layers, of which each counts over those below it.
+
+ghost use Rattle.std.specs.Prelude.{◌≡◌, ◌<◌, ◌++◌, IfOk, OnOk, drop, length, slice_index_or};
+ghost use Rattle.std.specs.Option.{option_to_list};
+ghost use Rattle.std.specs.Ordering.{nat_cmp};
+ghost use Rattle.std.specs.Cmp.Lexicographic.{slice_cmp};
+ghost use Rattle.procedure.specs.Bytes.{Bytes};
+ghost use Rattle.procedure.specs.Table.{no_table, with_cells};
+ghost use Rattle.image.specs.Images.{Entry as SpecEntry, Rises, entries_of};
+ghost use Rattle.image.specs.Joins.{Say, later_of};
+
+use crate::entries::{Entry, compared};
+use procedure::{Key, NoMemory};
+use std::alloc::{AllocError, Allocator};
+use std::cmp::Ordering;
+use std::marker::Model;
+
+/// What a table holds, as lists of entries in the order of their keys. Of two lists that name a key the
+/// later counts. A new list is put together with the last as long as that has no more than twice as many
+/// entries, so that an entry is looked at a number of times that goes by the logarithm of all.
+#[derive(Debug, Drop)]
+pub(crate) struct Layers<A: Allocator> {
+    lists: Vec<Vec<Entry<A>, A>, A>,
+}
+
+impl<A: Allocator> Model for Layers<A> {
+    ghost use Rattle.std.specs.Coded.{coded_list, coded_ℕ};
+    ghost use Rattle.std.specs.Ordering.{nat_cmp};
+    ghost use Rattle.std.specs.Cmp.Lexicographic.{slice_cmp};
+    ghost use Rattle.std.specs.FinMap as finite;
+    ghost use Rattle.procedure.specs.Table.{Table};
+    ghost use Rattle.image.specs.Layers.{AllRise, layers_of, table_of_layers};
+
+    ghost Value = { Table };
+
+    ghost coded = { finite.code {R = slice_cmp nat_cmp} (coded_list coded_ℕ) (coded_list coded_ℕ) };
+
+    ghost view = { table_of_layers };
+
+    ghost invariant = { λ l. AllRise (layers_of l) };
+}
+
+/// Where a key stands among entries from a place on, as a binary search tells it: its place, or the first
+/// whose key is above.
+fn place_of<A: Allocator>(entries: &[Entry<A>], from: usize, key: &Key) -> Result<usize, usize>
+    ensures within { IfOk result (λ at. at < length entries.now) }
+    ensures key { IfOk result (λ at. (e : SpecEntry) → (slice_index_or entries.now at e).0 ≡ key.now) }
+{
+    let mut at = from;
+    while at < entries.len() {
+        match compared(&entries[at], key) {
+            Ordering::Less => at += 1,
+            Ordering::Equal => return Ok(at),
+            Ordering::Greater => return Err(at),
+        }
+    }
+    Err(at)
+}
+
+/// Gives the cells of the newer list to the keys that the older one has, and returns the other entries.
+fn replaced<A: Allocator>(
+    alloc: A,
+    older: &mut Vec<Entry<A>, A>,
+    newer: Vec<Entry<A>, A>,
+) -> Result<Vec<Entry<A>, A>, NoMemory>
+    requires older { Rises older.old.items }
+    requires newer { Rises newer.items }
+    ensures older { OnOk result (Rises older.new.items) }
+    ensures others { IfOk result (λ es. Rises es.items) }
+    ensures says { IfOk result (λ es. (q : Bytes) → later_of older.new.items es.items q ≡ later_of older.old.items newer.items q) }
+{
+    let mut others = Vec::new(alloc);
+    let mut at = 0;
+    for entry in newer {
+        match place_of(older.as_slice(), at, &entry.key) {
+            Ok(place) => {
+                older[place].cell = entry.cell;
+                at = place;
+            }
+            Err(place) => {
+                others.push(entry)?;
+                at = place;
+            }
+        }
+    }
+    Ok(others)
+}
+
+/// An entry by move. Where it stood its key is left, and no value.
+fn moved<A: Allocator>(entry: &mut Entry<A>) -> Entry<A>
+    ensures { result ≡ entry.old }
+{
+    Entry {
+        key: entry.key,
+        cell: entry.cell.take(),
+    }
+}
+
+/// Moves the entries from a place on behind those that are out.
+fn move_rest<A: Allocator>(
+    out: &mut Vec<Entry<A>, A>,
+    mut entries: Vec<Entry<A>, A>,
+    from: usize,
+) -> Result<(), NoMemory>
+    ensures { OnOk result (out.new.items ≡ out.old.items ++ drop from entries.items) }
+{
+    let mut at = from;
+    while at < entries.len() {
+        out.push(moved(&mut entries[at]))?;
+        at += 1;
+    }
+    Ok(())
+}
+
+/// Two lists as one, by move; at a key of both the newer counts.
+fn joined<A: Allocator>(
+    alloc: A,
+    mut older: Vec<Entry<A>, A>,
+    mut newer: Vec<Entry<A>, A>,
+) -> Result<Vec<Entry<A>, A>, NoMemory>
+    requires older { Rises older.items }
+    requires newer { Rises newer.items }
+    ensures { IfOk result (λ es. Say (later_of older.items newer.items) es.items) }
+{
+    let mut out = Vec::with_capacity(alloc, older.len() + newer.len())?;
+    let mut i = 0;
+    let mut j = 0;
+    while i < older.len() && j < newer.len() {
+        match compared(&older[i], &newer[j].key) {
+            Ordering::Less => {
+                out.push(moved(&mut older[i]))?;
+                i += 1;
+            }
+            Ordering::Equal => {
+                out.push(moved(&mut newer[j]))?;
+                i += 1;
+                j += 1;
+            }
+            Ordering::Greater => {
+                out.push(moved(&mut newer[j]))?;
+                j += 1;
+            }
+        }
+    }
+    move_rest(&mut out, older, i)?;
+    move_rest(&mut out, newer, j)?;
+    Ok(out)
+}
+
+/// A list with a newer one over it. Memory is taken only for keys that are new.
+fn covered<A: Allocator + Clone>(
+    alloc: A,
+    mut older: Vec<Entry<A>, A>,
+    newer: Vec<Entry<A>, A>,
+) -> Result<Vec<Entry<A>, A>, NoMemory>
+    requires older { Rises older.items }
+    requires newer { Rises newer.items }
+    ensures { IfOk result (λ es. Say (later_of older.items newer.items) es.items) }
+{
+    let others = replaced(alloc.clone()?, &mut older, newer)?;
+    if others.is_empty() {
+        return Ok(older);
+    }
+    joined(alloc, older, others)
+}
+
+/// Takes off the last list, where it has no more than twice as many entries.
+fn take_like<A: Allocator>(
+    lists: &mut Vec<Vec<Entry<A>, A>, A>,
+    count: usize,
+) -> Option<Vec<Entry<A>, A>>
+    ensures { lists.old.items ≡ lists.new.items ++ option_to_list result }
+{
+    if lists.as_slice().last()?.len() / 2 > count {
+        return None;
+    }
+    lists.pop()
+}
+
+impl<A: Allocator> Layers<A> {
+    /// The empty table, which takes no memory.
+    pub(crate) fn new(alloc: A) -> Self
+        ensures { result ≡ no_table }
+    {
+        Layers {
+            lists: Vec::new(alloc),
+        }
+    }
+}
+
+impl<A: Allocator + Clone> Layers<A> {
+    /// The table changed by these entries.
+    pub(crate) fn with(self, entries: Vec<Entry<A>, A>) -> Result<Self, NoMemory>
+        requires { Rises entries.items }
+        ensures { IfOk result (λ l. l ≡ with_cells self entries.items) }
+    {
+        let Layers { mut lists } = self;
+        let mut newest = entries;
+        while let Some(older) = take_like(&mut lists, newest.len()) {
+            let alloc = lists.allocator().clone()?;
+            newest = covered(alloc, older, newest)?;
+        }
+        lists.push(newest)?;
+        Ok(Layers { lists })
+    }
+
+    /// The entries of the table.
+    pub(crate) fn into_entries(self, alloc: A) -> Result<Vec<Entry<A>, A>, NoMemory>
+        ensures { IfOk result (λ es. es.items ≡ entries_of self) }
+    {
+        let Layers { mut lists } = self;
+        let mut all = Vec::new(alloc.clone()?);
+        while let Some(older) = lists.pop() {
+            all = covered(alloc.clone()?, older, all)?;
+        }
+        all.retain(|entry| entry.cell.is_some());
+        all.shrink_to_fit();
+        Ok(all)
+    }
+}
