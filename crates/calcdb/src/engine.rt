@@ -84,7 +84,11 @@ fn run_begun<J: Journal<R, A>, R, W: Write, A: Allocator + Copy>(
 {
     match journal.open(alloc, rt, &core) {
         Ok(()) => run_on(alloc, rt, journal, writer, core, commands),
-        Err(failure) => Err(Stop::Journal(failure)),
+        Err(failure) => {
+            drop(core);
+            drop(commands);
+            Err(Stop::Journal(failure))
+        }
     }
 }
 

@@ -6,7 +6,7 @@ ghost use mathlib.Core.List.{IsPrefix};
 ghost use Rattle.image.specs.Openings.{is_opening};
 ghost use Rattle.procedure.specs.Bytes.{Bytes};
 ghost use Rattle.view.specs.Views.{name_of};
-ghost use Rattle.workers.specs.Checkpointed.{IsFrom, call_count};
+ghost use Rattle.workers.specs.Checkpointed.{AreCuts, IsFrom, call_count};
 ghost use Rattle.calcdb.specs.Outcomes.{Refuses};
 ghost use Rattle.calcdb.specs.Plans.{call_commands, keys_of};
 ghost use Rattle.calcdb.specs.Runs.{Sent};
@@ -164,6 +164,28 @@ fn run_to_end<
     }
 }
 
+/// Writes what came of a run, and the lines of the keys, by a reader.
+fn write_ended<J: Naming, W: Write, A: Allocator + Copy>(
+    alloc: A,
+    writer: &mut W,
+    ran: &Ran<A>,
+    reader: Reader<J, A>,
+    keys: &[Key],
+    count: usize,
+) -> Result<(), Fault>
+    requires { AreCuts ran.now.core ran.now.images.items }
+    ensures ok { OnOk result ((text : Bytes) × RunsInThreads count keys.now ran.now.core ran.now.images.items text × Appends (W.contents writer.old) (W.contents writer.new) text) }
+    ensures err { IfErr result (StopsInThreads count keys.now (W.contents writer.old) (W.contents writer.new)) }
+{
+    match write_ran(alloc, writer, ran, count) {
+        Ok(()) => look_each(alloc, writer, reader, keys),
+        Err(fault) => {
+            drop(reader);
+            Err(fault)
+        }
+    }
+}
+
 /// Writes what came of a run, and the lines of the keys, by a reader that learns what was published last.
 fn finish_run<J: Naming + Origin, Q: Wait + Drop, W: Write, A: Allocator + Copy>(
     alloc: A,
@@ -181,11 +203,18 @@ fn finish_run<J: Naming + Origin, Q: Wait + Drop, W: Write, A: Allocator + Copy>
 {
     let (core, images) = ended.taken.into_parts();
     let ran = Ran { core, images };
-    write_ran(alloc, writer, &ran, count)?;
-    look_each(alloc, writer, learn(reader, last), keys.as_slice())?;
+    let reader = learn(reader, last);
+    let written = write_ended(alloc, writer, &ran, reader, keys.as_slice(), count);
+    drop(keys);
     // The table is open to lookers as long as there is its publisher.
     drop(publisher);
-    Ok(ran)
+    match written {
+        Ok(()) => Ok(ran),
+        Err(fault) => {
+            drop(ran);
+            Err(fault)
+        }
+    }
 }
 
 /// Carries out a plan on a core, beside a thread in which the reader looks the keys up, and writes what came
@@ -230,7 +259,11 @@ fn run_plan<
         Ok((ended, publisher, last)) => {
             finish_run(alloc, writer, ended, publisher, last, reader, keys, count)
         }
-        Err(NoMemory) => Err(Fault::NoMemory),
+        Err(NoMemory) => {
+            drop(reader);
+            drop(keys);
+            Err(Fault::NoMemory)
+        }
     }
 }
 
@@ -272,6 +305,8 @@ fn run_in_view<
             )
         }
         Err(_) => {
+            drop(core);
+            drop(plan);
             let refused = Fault::Refused(Reason::NoView);
             Err(write_fault(alloc, writer, refused))
         }
