@@ -70,11 +70,10 @@ impl<A: Allocator + Clone> Pairs<A> {
         if self.table.len() >= ENTRIES {
             return Err(Unread::Faulty(Misread::ManyPairs));
         }
-        if self.table.get(&key).is_some() {
-            return Err(Unread::Faulty(Misread::SameKey));
+        match self.table.insert(key, held)? {
+            None => Ok(()),
+            Some(_before) => Err(Unread::Faulty(Misread::SameKey)),
         }
-        self.table.insert(key, held)?;
-        Ok(())
     }
 
     /// A line without a fault of its bytes.

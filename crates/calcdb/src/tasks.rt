@@ -20,11 +20,11 @@ use crate::show::show;
 use crate::threads::run_threads;
 use image::{Image, Kind, ReadError, ReadFromError, read_from};
 use std::alloc::Allocator;
-use std::fs;
 use std::io::{Read, Write};
 use std::rt::Files;
 use std::sync::Wait;
 use std::thread::Threads;
+use std::{fs, mem};
 
 /// The image of a file. Where it is refused, one line on standard output says why.
 fn read_opening<'a, R: Files, O: Write, A: Allocator + Copy>(
@@ -163,7 +163,8 @@ where
     let mut lines = CountedLines::new(&mut *out, progress);
     match run_kept(alloc, rt, &mut live, script, &mut lines, opening) {
         Ok(ran) => {
-            drop(ran);
+            // As in `run_and_leave`.
+            mem::forget(ran);
             let ended = live.end(rt);
             flush(out, Failure::CannotPrint)?;
             ended
@@ -199,7 +200,8 @@ where
     match run_reader(alloc, threads, script, opening, progress, out) {
         Ok(ran) => {
             let left = leave_run(alloc, rt, files.folder, &ran, out);
-            drop(ran);
+            // The program ends next, and its memory with it.
+            mem::forget(ran);
             left
         }
         Err(fault) => Err(failure_of(fault, files)),
