@@ -149,7 +149,8 @@ impl<W: Write + Drop> LogWriter<W> {
         Ok(())
     }
 
-    /// Writes records one after another, up to the first write that fails.
+    /// Writes records one after another, up to the first write that fails (`WriteFault`). What was sent is then
+    /// a beginning of the log with all of them, and nothing more is.
     pub fn append_all<A: Allocator>(&mut self, records: &[Record<A>]) -> Result<(), WriteFault>
         ensures ok { (start : Option Bytes) (h : SpecHeader) (rs : List SpecRecord) → HasSent start self.old h rs → OnOk result (HasSent start self.new h (rs ++ records.now)) }
         ensures err { (start : Option Bytes) (h : SpecHeader) (rs : List SpecRecord) → HasSent start self.old h rs → OnErr result (HasStopped start self.new h rs records.now) }

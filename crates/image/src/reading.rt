@@ -7,7 +7,7 @@ ghost use Rattle.image.specs.ImageBytes.{IsWithin, IsWritable, block_count};
 ghost use Rattle.image.specs.Fronts.{Gives};
 ghost use Rattle.image.specs.Readings.{IsBad, Judges, alone, alone_or_bad, alone_or_refused, first_entries, image_at, second_entries};
 ghost use Rattle.image.specs.Images.{Image as SpecImage};
-ghost use Rattle.image.specs.Refusals.{IsAnswer, stated};
+ghost use Rattle.image.specs.Refusals.{IsAnswer, Refuses, stated};
 ghost use Rattle.image.specs.declared.errors.ReadError.{ReadError};
 ghost use Rattle.std.specs.declared.result.Result.{Result};
 ghost use Rattle.image.specs.declared.errors.ReadError.TheVariants as refused;
@@ -204,6 +204,7 @@ fn read_second<A: Allocator + Clone>(alloc: A, bytes: &[u8]) -> Result<Image<A>,
 pub fn read_image<A: Allocator + Clone>(alloc: A, bytes: &[u8]) -> Result<Image<A>, ReadError>
     ensures answer { (result ≡ Err refused.NoMemory) ⊎ IsAnswer bytes.now result }
     ensures exact { (answer : Result SpecImage ReadError) → IsAnswer bytes.now answer → (result ≡ answer) ⊎ (result ≡ Err refused.NoMemory) }
+    ensures not_an_image { Refuses refused.NotAnImage bytes.now → result ≡ Err refused.NotAnImage }
 {
     if bytes.len() < SHORTEST {
         return Err(ReadError::NotAnImage);

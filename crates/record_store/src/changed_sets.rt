@@ -207,6 +207,7 @@ impl<A: Allocator> Changed<A> {
         sort_once(&mut self.frozen, &mut self.in_order);
     }
 
+    /// Whether the key is frozen. The frozen keys are brought into their order first, where they aren't in it.
     pub fn freezes(&mut self, key: &Key) -> bool
         ensures value { result ≡ has self.old.frozen key.now }
         ensures same { self.new ≡ self.old }

@@ -107,7 +107,7 @@ impl<A: Allocator + Copy> Store<A> {
         }
     }
 
-    /// A store without slots, with room for so many records.
+    /// A store without slots, with room for so many records; or out of memory (`NoMemory`).
     pub fn with_capacity(alloc: A, capacity: usize) -> Result<Self, NoMemory>
         ensures { IfOk result (λ store. store ≡ []) }
     {

@@ -28,6 +28,15 @@ returns-then-eq-clause-exact g c = λ a h.
     })
     (λ i. omega (arith, c.type_inv.bytes i)) c.read_first.ensures) h
 
+pub returns-then-eq-clause-not_an_image : goal.returns-then-eq-clause-not_an_image
+returns-then-eq-clause-not_an_image g c = λ h.
+    absurd (h.0
+    (record {
+      long = c.if-bytes-lt-SHORTEST.false;
+      magic = sym c.split_at.ensures.front ∙ same_bytes c.split_at.result.0.now c.as_slice.result.now (sym c.eq.ensures ∙ c.if-eq.true) ∙
+          c.as_slice.ensures;
+    }))
+
 pub returns-then-eq-2-clause-answer : goal.returns-then-eq-2-clause-answer
 returns-then-eq-2-clause-answer g c =
     second_judged c.args.bytes.now c.read_second.result
@@ -48,6 +57,15 @@ returns-then-eq-2-clause-exact g c = λ a h.
           c.as_slice-2.ensures;
     })
     (λ i. omega (arith, c.type_inv.bytes i)) c.read_second.ensures) h
+
+pub returns-then-eq-2-clause-not_an_image : goal.returns-then-eq-2-clause-not_an_image
+returns-then-eq-2-clause-not_an_image g c = λ h.
+    absurd (h.1
+    (record {
+      long = c.if-bytes-lt-SHORTEST.false;
+      magic = sym c.split_at.ensures.front ∙ same_bytes c.split_at.result.0.now c.as_slice-2.result.now (sym c.eq-2.ensures ∙ c.if-eq-2.true) ∙
+          c.as_slice-2.ensures;
+    }))
 
 pub returns-clause-exact : goal.returns-clause-exact
 returns-clause-exact g c = λ a h.
