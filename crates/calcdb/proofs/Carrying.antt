@@ -1,11 +1,11 @@
 -- Events carried out one after another.
-use Rattle.std.proofs.Common.{◌≡◌, inl, inr, ℕ, suc, List, [], ◌∷◌, Result, Ok, Err, refl, sym, ap, subst, slice_get, Option, Some, None, option_to_list}
+use Rattle.std.proofs.Common.{◌≡◌, inl, inr, ℕ, suc, false, is_some, List, [], ◌∷◌, Result, Ok, Err, refl, sym, ap, subst, slice_get, Option, Some, None, option_to_list}
 use Rattle.std.proofs.lemmas.List.{append-nil}
 use Rattle.image.specs.Images.{Image}
 use Rattle.procedure.specs.Bytes.{Bytes}
 use Rattle.procedure.specs.Procedures.{Procedure}
 use Rattle.steps.specs.CoreViews.{CoreView}
-use Rattle.steps.specs.Schedules.{FinishesAs, GivesUpAs, Handles, StepsAs, image_in, without_image}
+use Rattle.steps.specs.Schedules.{FinishesAs, GivesUpAs, Handles, StepsAs, TakesImage, image_in, without_image}
 use Rattle.steps.specs.declared.errors.BeginError.{BeginError}
 use Rattle.steps.specs.declared.errors.FinishError.{FinishError}
 use Rattle.steps.specs.declared.errors.NotActive.{NotActive}
@@ -18,7 +18,7 @@ use Rattle.steps.specs.declared.schedules.Reply.TheVariants as reply
 use Rattle.steps.specs.declared.step.Stepped.{Stepped}
 use Rattle.steps.specs.declared.step.Stepped.TheVariants.{Ran, Ready}
 use Rattle.calcdb.specs.Output.{image_text}
-use Rattle.calcdb.specs.Runs.{Begins, Calls, Carried, Carries, Ends, GoesOn, Says, count_of, handled_text, reply_text}
+use Rattle.calcdb.specs.Runs.{Begins, Calls, Carried, Carries, Ends, GoesOn, Says, count_of, handled_text, image_or, reply_text}
 use Rattle.calcdb.specs.declared.commands.Command.TheVariants as command
 use Rattle.calcdb.specs.declared.commands.NewCall.{NewCall}
 
@@ -100,14 +100,16 @@ module _ {A : Type 0} where
   pub one : (e : Event A) (old new : CoreView) (r : Handled A) → Handles e old new r → Carried {A = A} (Says e) old new (handled_text r) (image_in r)
   one e old new r h = record { events = e ∷ []; each = r ∷ []; handled = (new, h, refl); says = (r, refl, refl, refl); taken = sym (append-nil (image_in r)) }
 
-  -- what is printed of it where it took an image, and where it took none
-  pub one_image : (e : Event A) (old new : CoreView) (x : Handled A) (i : Image) → x.image ≡ Some i → Carried {A = A} (Says e) old new (handled_text x) (image_in x) →
-      Carried {A = A} (Says e) old new (image_text i) (i ∷ [])
-  one_image e old new x i is h = subst (λ (o : Option Image). Carried {A = A} (Says e) old new (handled_text {A = A} (record { reply = x.reply; image = o })) (option_to_list o)) is h
+  -- an image is taken, or none waits
+  pub image_taken : (old new : CoreView) (o : Option Image) (i : Image) → o ≡ Some i → TakesImage old new o → Carried {A = A} (Says event.TakeImage) old new (image_text i) (i ∷ [])
+  image_taken old new o i is h =
+      subst (λ (x : Option Image). Carried {A = A} (Says event.TakeImage) old new (image_or x (reply_text {A = A} (reply.TakeImage (is_some x)))) (option_to_list x)) is
+      (one event.TakeImage old new (record { reply = reply.TakeImage (is_some o); image = o }) (o, refl, h))
 
-  pub one_reply : (e : Event A) (old new : CoreView) (x : Handled A) → x.image ≡ None → Carried {A = A} (Says e) old new (handled_text x) (image_in x) →
-      Carried {A = A} (Says e) old new (reply_text x.reply) []
-  one_reply e old new x is h = subst (λ (o : Option Image). Carried {A = A} (Says e) old new (handled_text {A = A} (record { reply = x.reply; image = o })) (option_to_list o)) is h
+  pub no_image_taken : (old new : CoreView) (o : Option Image) → o ≡ None → TakesImage old new o → Carried {A = A} (Says event.TakeImage) old new (reply_text {A = A} (reply.TakeImage false)) []
+  no_image_taken old new o is h =
+      subst (λ (x : Option Image). Carried {A = A} (Says event.TakeImage) old new (image_or x (reply_text {A = A} (reply.TakeImage (is_some x)))) (option_to_list x)) is
+      (one event.TakeImage old new (record { reply = reply.TakeImage (is_some o); image = o }) (o, refl, h))
 
   -- by which a call begins
   pub one_begin : (catalog : List Procedure) (c : NewCall (List Bytes)) (b : Event A) (old new : CoreView) (text : Bytes) (images : List Image) → Begins c b →

@@ -3,6 +3,7 @@ pub mod CarryingOn
 pub mod CommandLines
 pub mod CoreFiles
 pub mod CoreLogs
+pub mod CutOffLogs
 pub mod Decimals
 pub mod Declined
 pub mod Digested

@@ -2,6 +2,7 @@
 use Rattle.std.proofs.Common.{◌≡◌, List, ◌++◌, Option, Some, None, Result, Ok, Err}
 use Rattle.std.specs.Result.{IsErrAnd}
 use Rattle.calcdb.specs.Reads.{◌>>=◌, FailsToRead, ReadsAs}
+use Rattle.calcdb.specs.declared.faults.misreads.Misread.{Misread}
 use Rattle.calcdb.specs.declared.faults.unread.Unread.{Unread}
 use Rattle.calcdb.specs.declared.faults.unread.Unread.TheVariants.{Faulty, NoMemory}
 
@@ -15,6 +16,12 @@ pub handed_on : {X Y A : Type 0} (view : A → Y) (r : Result A Unread) (e : Unr
     IsErrAnd r (λ f. f ≡ e) → FailsToRead e part → (part ≡ None → read ≡ None) → ReadsAs view r read
 handed_on view (Ok x) e part read is h whole = absurd is
 handed_on view (Err f) e part read is h whole = rw is (fails_on e part read whole h)
+
+-- and so is that of a part which takes no memory
+pub fault_handed_on : {X Y A : Type 0} (view : A → Y) (r : Result A Unread) (why : Misread) (part : Option X) (read : Option Y) →
+    IsErrAnd r (λ f. f ≡ Faulty why) → part ≡ None → (part ≡ None → read ≡ None) → ReadsAs view r read
+fault_handed_on view (Ok x) why part read is none whole = absurd is
+fault_handed_on view (Err f) why part read is none whole = rw is (whole none)
 
 -- what is read, behind what was read before
 abbrev pub behind : {X : Type 0} → List X → Option (List X) → Option (List X)

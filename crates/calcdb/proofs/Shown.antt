@@ -17,6 +17,7 @@ use Rattle.calcdb.specs.Outcomes.{fault_text}
 use Rattle.calcdb.specs.Output.{entries_text, entry_text, image_text, value_text}
 use Rattle.calcdb.specs.Reasons.{log_reason, read_reason}
 use Rattle.calcdb.specs.Refusing.{Declines, FailsAs, no_memory}
+use Rattle.calcdb.specs.Runs.{Sent}
 use Rattle.calcdb.specs.Showing.{AgreesWithPrint, BreaksOff, EndsShow, IsShowFault, PrintsImage, PrintsLog, StopsIn, arguments_text, of_image, of_reading, record_text, records_text}
 use Rattle.procedure.specs.Streams.{IsBegun}
 use Rattle.calcdb.specs.declared.faults.Fault.{Fault}
@@ -43,6 +44,12 @@ header_stops text old new fault.NoMemory h = absurd h
 header_stops text old new (fault.Refused r) (is, out) = inr (inl (is, subst (λ f. Appends old new (fault_text f)) is out))
 header_stops text old new fault.Write (t, inl is, begun) = inl (inl refl, subst (IsBegun old new) is begun)
 header_stops text old new fault.Write (t, inr (f, wants, is), begun) = inr (inr (refl, subst (IsBegun old new) (is ∙ rw wants refl) begun))
+
+-- lines that were written, or broke off
+pub sent_lines : (r : Result (Unit {0}) Fault) (old new : Option Bytes) (text : Bytes) → OnOk r (Appends old new text) → IfErr r (λ f. BreaksOff text old new f) → Sent r old new text
+sent_lines (Ok x) old new text ok err = ok
+sent_lines (Err f) old new text ok (inl is, begun) = subst (λ (g : Fault). Sent (Err g) old new text) (sym is) begun
+sent_lines (Err f) old new text ok (inr is, begun) = subst (λ (g : Fault). Sent (Err g) old new text) (sym is) begun
 
 -- behind what went out
 pub breaks_off_on : (old now new : Option Bytes) (text left more rest : Bytes) (f : Fault) → Gone old now text left → left ≡ more ++ rest → BreaksOff more now new f → BreaksOff text old new f

@@ -1,15 +1,16 @@
 -- Texts of which a front was read, up to a byte over the limit.
-use Rattle.std.proofs.Common.{◌≡◌, ◌≤◌, ◌<◌, ◌+◌, Bool, true, false, nat_le, [], ◌++◌, length, List, Option, Some, None, Result, Ok, Err, refl, sym, ap, ◌∙◌, arith}
+use Rattle.std.proofs.Common.{◌≡◌, ◌⊎◌, ◌≤◌, ◌<◌, ◌+◌, Bool, true, false, nat_le, [], ◌++◌, length, List, Option, Some, None, Result, Ok, Err, refl, sym, ap, subst, ◌∙◌, arith}
 use Rattle.std.specs.Io.KnownBytes.{Consumes, IsAtEnd}
 use Rattle.std.proofs.lemmas.Bool.{leb-true, leb-false, lt-leb}
 use Rattle.std.proofs.lemmas.List.{append-nil, length-append}
 use Rattle.procedure.specs.Bytes.{Bytes}
 use Rattle.calcdb.specs.Commands.{Names}
+use Rattle.calcdb.specs.LineByLine.{TellsScript}
 use Rattle.calcdb.specs.Pairs.{image_of_pairs, table_of_pairs}
 use Rattle.calcdb.specs.Preambles.{Preamble, preamble_of}
 use Rattle.calcdb.specs.Scripts.{Script, script_after, script_of}
 use Rattle.calcdb.specs.declared.scripts.ScriptFault.{ScriptFault}
-use Rattle.calcdb.specs.declared.scripts.ScriptFault.TheVariants.{Size}
+use Rattle.calcdb.specs.declared.scripts.ScriptFault.TheVariants.{NoMemory, Size}
 use Rattle.calcdb.specs.declared.scripts.TheConstants.{SCRIPT_BYTES}
 
 -- texts that are too long say the same
@@ -46,3 +47,22 @@ module _ {Y : Type 0} (says : Bytes → Y) (refuses : RefusesLong says) where
   same_reading (Some xs) (Some ys) source text is h at_end =
       let same : xs ≡ source = cc in
       same_by source text ys (nat_le (length text) SCRIPT_BYTES) refl (sym same ∙ h) at_end
+
+module _ {Y : Type 0} where
+  told : (r : Result Y ScriptFault) (y : Y) (says : Result Y ScriptFault) → r ≡ Ok y → TellsScript (λ x. x) r says → says ≡ Ok y
+  told (Ok x) y says is h = h ∙ is
+  told (Err e) y says is h = absurd (cc)
+
+  told_fault : (r : Result Y ScriptFault) (e : ScriptFault) (says : Result Y ScriptFault) → r ≡ Err e → TellsScript (λ x. x) r says → (e ≡ NoMemory) ⊎ (says ≡ Err e)
+  told_fault (Ok x) e says is h = absurd (cc)
+  told_fault (Err f) e says is h =
+      let same : f ≡ e = cc in
+      subst (λ (x : ScriptFault). (x ≡ NoMemory) ⊎ (says ≡ Err x)) same h
+
+  -- what a text was read as, of which the same bytes were seen
+  pub read_as : (says : Bytes → Result Y ScriptFault) (text seen : Bytes) (r : Result Y ScriptFault) (y : Y) → seen ≡ text → r ≡ Ok y → TellsScript (λ x. x) r (says seen) → says text ≡ Ok y
+  read_as says text seen r y same is h = ap says (sym same) ∙ told r y (says seen) is h
+
+  pub refused_as : (says : Bytes → Result Y ScriptFault) (text seen : Bytes) (r : Result Y ScriptFault) (e : ScriptFault) → seen ≡ text → r ≡ Err e → TellsScript (λ x. x) r (says seen) →
+      (e ≡ NoMemory) ⊎ (says text ≡ Err e)
+  refused_as says text seen r e same is h = subst (λ (t : Bytes). (e ≡ NoMemory) ⊎ (says t ≡ Err e)) same (told_fault r e (says seen) is h)

@@ -48,10 +48,14 @@ abbrev pub all_pass : (ℕ → Bool) → Bytes → Bool
 all_pass p [] = true
 all_pass p (b ∷ bs) = p b && all_pass p bs
 
+-- begins with `;`
+abbrev pub is_comment : Bytes → Bool
+is_comment w = slice_index_or w 0 0 == 59
+
 -- without words, or with a first word that begins with `;`
 abbrev pub is_skipped : List Bytes → Bool
 is_skipped [] = true
-is_skipped (w ∷ ws) = slice_index_or w 0 0 == 59
+is_skipped (w ∷ ws) = is_comment w
 
 -- the pieces of what is left, if anything is
 abbrev pub left_pieces : (ℕ → Bool) → Option Bytes → List Bytes

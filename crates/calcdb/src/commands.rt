@@ -1,7 +1,7 @@
 //! Lines of commands.
 
-ghost use Rattle.std.specs.Prelude.{◌≡◌, List, map};
-ghost use Rattle.calcdb.specs.Reads.{ReadsAs};
+ghost use Rattle.std.specs.Prelude.{◌≡◌, ◌∷◌, List, map};
+ghost use Rattle.calcdb.specs.Reads.{ReadsAs, ReadsExactly};
 ghost use Rattle.calcdb.specs.Commands as spec;
 ghost use Rattle.calcdb.specs.Lines.{all_pass, words};
 ghost use Rattle.calcdb.specs.Values.{value_of};
@@ -9,7 +9,7 @@ ghost use Rattle.calcdb.specs.Values.{value_of};
 use crate::faults::misreads::{Misread, Quote};
 use crate::faults::unread::Unread;
 use crate::instructions::is_word;
-use crate::lines::{end_of, first_word, word_at};
+use crate::lines::{count_words, end_of, first_word, word_at};
 use crate::values::{decimal_of, value_of};
 use image::Kind;
 use procedure::{Key, KeyMap};
@@ -141,7 +141,7 @@ pub(crate) fn number_of_name<A: Allocator>(names: &Names<A>, word: &[u8]) -> Opt
 
 /// A kind of commands, as the words of a line are read.
 pub(crate) trait ReadCommand<A: Allocator>: Sized {
-    ghost use Rattle.std.specs.Prelude.{List, Option};
+    ghost use Rattle.std.specs.Prelude.{◌∷◌, List, Option};
     ghost use Rattle.procedure.specs.Bytes.{Bytes};
     ghost use Rattle.calcdb.specs.Commands.{Names};
     ghost use Rattle.calcdb.specs.Lines.{words};
@@ -150,21 +150,21 @@ pub(crate) trait ReadCommand<A: Allocator>: Sized {
     /// The command that words are, where the procedures have these names.
     ghost reads: { Names → List Bytes → Option Self };
 
-    /// The command that a line is.
-    fn read(alloc: A, names: &Names<A>, line: &[u8]) -> Result<Self, Unread>
-        ensures { ReadsAs (λ c. c) result (reads names.now (words line.now)) };
+    /// The command that a line is, by its first word and what stands after that.
+    fn read(alloc: A, names: &Names<A>, word: &[u8], rest: &[u8]) -> Result<Self, Unread>
+        ensures { ReadsAs (λ c. c) result (reads names.now (word.now ∷ words rest.now)) };
 }
 
 /// A session's number, at most this.
-pub(crate) fn session_at(most: u16, line: &[u8]) -> Result<(u16, &[u8]), Unread>
-    ensures { ReadsAs (λ p. (p.0, words p.1.now)) result (spec.session_at most (words line.now)) }
+pub(crate) fn session_at(most: u16, line: &[u8]) -> Result<(u16, &[u8]), Misread>
+    ensures { ReadsExactly (λ p. (p.0, words p.1.now)) result (spec.session_at most (words line.now)) }
 {
     let (word, rest) = word_at(line)?;
     Ok((decimal_of(u64::from(most), word)? as u16, rest))
 }
 
-pub(crate) fn number_at(line: &[u8]) -> Result<(u64, &[u8]), Unread>
-    ensures { ReadsAs (λ p. (p.0, words p.1.now)) result (spec.number_at (words line.now)) }
+pub(crate) fn number_at(line: &[u8]) -> Result<(u64, &[u8]), Misread>
+    ensures { ReadsExactly (λ p. (p.0, words p.1.now)) result (spec.number_at (words line.now)) }
 {
     let (word, rest) = word_at(line)?;
     Ok((decimal_of(u64::MAX, word)?, rest))
@@ -173,13 +173,13 @@ pub(crate) fn number_at(line: &[u8]) -> Result<(u64, &[u8]), Unread>
 pub(crate) fn procedure_at<'a, A: Allocator>(
     names: &Names<A>,
     line: &'a [u8],
-) -> Result<(u16, &'a [u8]), Unread>
-    ensures { ReadsAs (λ p. (p.0, words p.1.now)) result (spec.procedure_at names.now (words line.now)) }
+) -> Result<(u16, &'a [u8]), Misread>
+    ensures { ReadsExactly (λ p. (p.0, words p.1.now)) result (spec.procedure_at names.now (words line.now)) }
 {
     let (word, rest) = word_at(line)?;
     match number_of_name(names, word) {
         Some(procedure) => Ok((procedure, rest)),
-        None => Err(Unread::Faulty(Misread::NoProcedure(Quote::of(word)))),
+        None => Err(Misread::NoProcedure(Quote::of(word))),
     }
 }
 
@@ -187,7 +187,7 @@ pub(crate) fn procedure_at<'a, A: Allocator>(
 fn arguments_of<A: Allocator + Clone>(alloc: A, line: &[u8]) -> Result<Arguments<A>, Unread>
     ensures { ReadsAs (λ a. a) result (spec.values_by value_of (words line.now)) }
 {
-    let mut values = Vec::new(alloc.clone()?);
+    let mut values = Vec::with_capacity(alloc.clone()?, count_words(line))?;
     let mut rest = line;
     while let Some((word, behind)) = first_word(rest) {
         values.push(value_of(alloc.clone()?, word)?)?;
@@ -219,30 +219,30 @@ fn call_of<A: Allocator + Clone>(
 
 /// A session alone.
 #[tactic(auto, unfolding(crate::specs::Commands::session_of))]
-fn session_of(line: &[u8]) -> Result<u16, Unread>
-    ensures { ReadsAs (λ s. s) result (spec.session_of (words line.now)) }
+fn session_of(line: &[u8]) -> Result<u16, Misread>
+    ensures { ReadsExactly (λ s. s) result (spec.session_of (words line.now)) }
 {
     let (session, rest) = session_at(u16::MAX, line)?;
     end_of(rest)?;
     Ok(session)
 }
 
-fn kind_named(word: &[u8]) -> Result<Kind, Unread>
-    ensures { ReadsAs (λ k. k) result (spec.kind_named word.now) }
+fn kind_named(word: &[u8]) -> Result<Kind, Misread>
+    ensures { ReadsExactly (λ k. k) result (spec.kind_named word.now) }
 {
     if is_word(word, b"full") {
         Ok(Kind::Full)
     } else if is_word(word, b"partial") {
         Ok(Kind::Partial)
     } else {
-        Err(Unread::Faulty(Misread::NoKind(Quote::of(word))))
+        Err(Misread::NoKind(Quote::of(word)))
     }
 }
 
 /// A kind of checkpoint alone.
 #[tactic(auto, unfolding(crate::specs::Commands::kind_in))]
-pub(crate) fn kind_of(line: &[u8]) -> Result<Kind, Unread>
-    ensures { ReadsAs (λ k. k) result (spec.kind_in (words line.now)) }
+pub(crate) fn kind_of(line: &[u8]) -> Result<Kind, Misread>
+    ensures { ReadsExactly (λ k. k) result (spec.kind_in (words line.now)) }
 {
     let (word, rest) = word_at(line)?;
     let kind = kind_named(word)?;
@@ -254,15 +254,15 @@ pub(crate) fn kind_of(line: &[u8]) -> Result<Kind, Unread>
 fn alone<A: Allocator>(
     command: Command<Arguments<A>>,
     line: &[u8],
-) -> Result<Command<Arguments<A>>, Unread>
-    ensures { ReadsAs (λ c. c) result (spec.without_arguments command (words line.now)) }
+) -> Result<Command<Arguments<A>>, Misread>
+    ensures { ReadsExactly (λ c. c) result (spec.without_arguments command (words line.now)) }
 {
     end_of(line)?;
     Ok(command)
 }
 
-fn command_name(word: &[u8]) -> Result<CommandName, Unread>
-    ensures { ReadsAs (λ c. c) result (spec.command_name word.now) }
+fn command_name(word: &[u8]) -> Result<CommandName, Misread>
+    ensures { ReadsExactly (λ c. c) result (spec.command_name word.now) }
 {
     if is_word(word, b"begin") {
         Ok(CommandName::Begin)
@@ -289,47 +289,40 @@ fn command_name(word: &[u8]) -> Result<CommandName, Unread>
     } else if is_word(word, b"abandon") {
         Ok(CommandName::Abandon)
     } else {
-        Err(Unread::Faulty(Misread::NoCommand(Quote::of(word))))
+        Err(Misread::NoCommand(Quote::of(word)))
     }
 }
 
-fn command_at(line: &[u8]) -> Result<(CommandName, &[u8]), Unread>
-    ensures { ReadsAs (λ p. (p.0, words p.1.now)) result (spec.command_at (words line.now)) }
-{
-    let (word, rest) = word_at(line)?;
-    Ok((command_name(word)?, rest))
-}
-
-/// The command that a line is.
+/// The command that a line is, by its first word and what stands after that.
 #[tactic(auto, unfolding(crate::specs::Commands::command_of))]
 fn command_of<A: Allocator + Clone>(
     alloc: A,
     names: &Names<A>,
-    line: &[u8],
+    word: &[u8],
+    rest: &[u8],
 ) -> Result<Command<Arguments<A>>, Unread>
-    ensures { ReadsAs (λ c. c) result (spec.command_of names.now (words line.now)) }
+    ensures { ReadsAs (λ c. c) result (spec.command_of names.now (word.now ∷ words rest.now)) }
 {
-    let (name, rest) = command_at(line)?;
-    match name {
+    match command_name(word)? {
         CommandName::Begin => Ok(Command::Begin(call_of(alloc, names, rest)?)),
         CommandName::Step => Ok(Command::Step(session_of(rest)?)),
         CommandName::Finish => Ok(Command::Finish(session_of(rest)?)),
         CommandName::GiveUp => Ok(Command::GiveUp(session_of(rest)?)),
         CommandName::Call => Ok(Command::Call(call_of(alloc, names, rest)?)),
         CommandName::Start => Ok(Command::Start(kind_of(rest)?)),
-        CommandName::Advance => alone(Command::Advance, rest),
-        CommandName::Capture => alone(Command::Capture, rest),
-        CommandName::Scan => alone(Command::Scan, rest),
-        CommandName::TakeImage => alone(Command::TakeImage, rest),
-        CommandName::Reclaim => alone(Command::Reclaim, rest),
-        CommandName::Abandon => alone(Command::Abandon, rest),
+        CommandName::Advance => Ok(alone(Command::Advance, rest)?),
+        CommandName::Capture => Ok(alone(Command::Capture, rest)?),
+        CommandName::Scan => Ok(alone(Command::Scan, rest)?),
+        CommandName::TakeImage => Ok(alone(Command::TakeImage, rest)?),
+        CommandName::Reclaim => Ok(alone(Command::Reclaim, rest)?),
+        CommandName::Abandon => Ok(alone(Command::Abandon, rest)?),
     }
 }
 
 impl<A: Allocator + Clone> ReadCommand<A> for Command<Arguments<A>> {
     ghost reads = { spec.command_of };
 
-    fn read(alloc: A, names: &Names<A>, line: &[u8]) -> Result<Self, Unread> {
-        command_of(alloc, names, line)
+    fn read(alloc: A, names: &Names<A>, word: &[u8], rest: &[u8]) -> Result<Self, Unread> {
+        command_of(alloc, names, word, rest)
     }
 }

@@ -120,16 +120,19 @@ fn run_text<J: Journal<R, A>, R, W: Write, A: Allocator + Copy>(
     rt: &R,
     journal: &mut J,
     writer: &mut W,
-    text: &[u8],
+    text: Vec<u8, A>,
     opening: Image<A>,
 ) -> Result<Ran<A>, Stop<J::Failure>>
     requires { is_opening opening ≡ true }
-    ensures run { IfOk result (λ r. (out : Bytes) × RunsTo A (schedule_of text.now) opening r.core out r.images.items × Appends (W.contents writer.old) (W.contents writer.new) out) }
-    ensures fault { IfErr result (IfFault (λ f. EndsRun A (schedule_of text.now) opening (W.contents writer.old) (W.contents writer.new) f)) }
+    ensures run { IfOk result (λ r. (out : Bytes) × RunsTo A (schedule_of text.items) opening r.core out r.images.items × Appends (W.contents writer.old) (W.contents writer.new) out) }
+    ensures fault { IfErr result (IfFault (λ f. EndsRun A (schedule_of text.items) opening (W.contents writer.old) (W.contents writer.new) f)) }
     ensures kept { IfOk result (λ r. J.Has journal.old journal.new (taken_of r.core r.images.items)) }
-    ensures stopped { IfErr result (LeavesJournal A (schedule_of text.now) opening (W.contents writer.old) (W.contents writer.new) (journal.new ≡ journal.old) (J.Has journal.old journal.new) (J.HasFront journal.old journal.new)) }
+    ensures stopped { IfErr result (LeavesJournal A (schedule_of text.items) opening (W.contents writer.old) (W.contents writer.new) (journal.new ≡ journal.old) (J.Has journal.old journal.new) (J.HasFront journal.old journal.new)) }
 {
-    match read_schedule(alloc, text) {
+    let read = read_schedule(alloc, text.as_slice());
+    // Its memory isn't needed while the script is carried out.
+    drop(text);
+    match read {
         Ok(script) => run_opened(alloc, rt, journal, writer, script, opening),
         Err(fault) => Err(Stop::Fault(refuse_script(alloc, writer, fault))),
     }
@@ -168,7 +171,7 @@ pub(crate) fn run_kept<J: Journal<R, A>, R, I: Read, W: Write, A: Allocator + Co
         Err(Unread::ReadFault) => return Err(Stop::Fault(Fault::Read)),
         Err(Unread::NoMemory) => return Err(Stop::Fault(Fault::NoMemory)),
     };
-    run_text(alloc, rt, journal, writer, text.as_slice(), opening)
+    run_text(alloc, rt, journal, writer, text, opening)
 }
 
 /// Runs a script as `run_kept` does, with no journal.

@@ -2,7 +2,7 @@
 
 ghost use Rattle.std.specs.Prelude.{◌≡◌, ◌≤◌, ◌<◌, ℕ, IfOk, IfSome, None};
 ghost use Rattle.procedure.specs.Catalogs.{instruction_fault, operand_fault, pair_fault, register_fault, test_fault};
-ghost use Rattle.calcdb.specs.Reads.{ReadsAs};
+ghost use Rattle.calcdb.specs.Reads.{ReadsAs, ReadsExactly};
 ghost use Rattle.calcdb.specs.Instructions as spec;
 ghost use Rattle.calcdb.specs.Lines.{words};
 
@@ -42,8 +42,8 @@ pub(crate) fn is_word(word: &[u8], name: &[u8]) -> bool
     word == name
 }
 
-fn verb_of(word: &[u8]) -> Result<Verb, Unread>
-    ensures { ReadsAs (λ v. v) result (spec.verb_of word.now) }
+fn verb_of(word: &[u8]) -> Result<Verb, Misread>
+    ensures { ReadsExactly (λ v. v) result (spec.verb_of word.now) }
 {
     if is_word(word, b"read") {
         Ok(Verb::Read)
@@ -60,12 +60,12 @@ fn verb_of(word: &[u8]) -> Result<Verb, Unread>
     } else if is_word(word, b"abort") {
         Ok(Verb::Abort)
     } else {
-        Err(Unread::Faulty(Misread::NoInstruction(Quote::of(word))))
+        Err(Misread::NoInstruction(Quote::of(word)))
     }
 }
 
-fn test_of(word: &[u8]) -> Result<TestName, Unread>
-    ensures { ReadsAs (λ t. t) result (spec.test_of word.now) }
+fn test_of(word: &[u8]) -> Result<TestName, Misread>
+    ensures { ReadsExactly (λ t. t) result (spec.test_of word.now) }
 {
     if is_word(word, b"absent") {
         Ok(TestName::Absent)
@@ -74,19 +74,19 @@ fn test_of(word: &[u8]) -> Result<TestName, Unread>
     } else if is_word(word, b"below") {
         Ok(TestName::Below)
     } else {
-        Err(Unread::Faulty(Misread::NoTest(Quote::of(word))))
+        Err(Misread::NoTest(Quote::of(word)))
     }
 }
 
-fn verb_at(line: &[u8]) -> Result<(Verb, &[u8]), Unread>
-    ensures { ReadsAs (λ p. (p.0, words p.1.now)) result (spec.verb_at (words line.now)) }
+fn verb_at(line: &[u8]) -> Result<(Verb, &[u8]), Misread>
+    ensures { ReadsExactly (λ p. (p.0, words p.1.now)) result (spec.verb_at (words line.now)) }
 {
     let (word, rest) = word_at(line)?;
     Ok((verb_of(word)?, rest))
 }
 
-fn test_at(line: &[u8]) -> Result<(TestName, &[u8]), Unread>
-    ensures { ReadsAs (λ p. (p.0, words p.1.now)) result (spec.test_at (words line.now)) }
+fn test_at(line: &[u8]) -> Result<(TestName, &[u8]), Misread>
+    ensures { ReadsExactly (λ p. (p.0, words p.1.now)) result (spec.test_at (words line.now)) }
 {
     let (word, rest) = word_at(line)?;
     Ok((test_of(word)?, rest))
@@ -104,19 +104,19 @@ fn index_of(count: u8, word: &[u8]) -> Option<u8>
     }
 }
 
-fn register_of(word: &[u8]) -> Result<u8, Unread>
-    ensures value { ReadsAs (λ r. r) result (spec.register_of word.now) }
+fn register_of(word: &[u8]) -> Result<u8, Misread>
+    ensures value { ReadsExactly (λ r. r) result (spec.register_of word.now) }
     ensures lawful { IfOk result (λ r. register_fault r ≡ None) }
 {
     let index = match word {
         [b'r', index @ ..] => index_of(REGISTERS as u8, index),
         _ => None,
     };
-    index.ok_or(Unread::Faulty(Misread::NoRegister(Quote::of(word))))
+    index.ok_or(Misread::NoRegister(Quote::of(word)))
 }
 
-fn register_at(line: &[u8]) -> Result<(u8, &[u8]), Unread>
-    ensures value { ReadsAs (λ p. (p.0, words p.1.now)) result (spec.register_at (words line.now)) }
+fn register_at(line: &[u8]) -> Result<(u8, &[u8]), Misread>
+    ensures value { ReadsExactly (λ p. (p.0, words p.1.now)) result (spec.register_at (words line.now)) }
     ensures lawful { IfOk result (λ p. register_fault p.0 ≡ None) }
 {
     let (word, rest) = word_at(line)?;
@@ -168,20 +168,20 @@ fn operand_at<'a, A: Allocator>(
 }
 
 /// A decimal of 16 to 255.
-fn code_of(word: &[u8]) -> Result<u8, Unread>
-    ensures value { ReadsAs (λ c. c) result (spec.code_of word.now) }
+fn code_of(word: &[u8]) -> Result<u8, Misread>
+    ensures value { ReadsExactly (λ c. c) result (spec.code_of word.now) }
     ensures lawful { IfOk result (λ c. FIRST_ABORT ≤ c) }
 {
     let code = decimal_of(255, word)? as u8;
     if code < FIRST_ABORT {
-        return Err(Unread::Faulty(Misread::NoCode(Quote::of(word))));
+        return Err(Misread::NoCode(Quote::of(word)));
     }
     Ok(code)
 }
 
 #[tactic(auto, unfolding(crate::specs::Instructions::code_at))]
-fn code_at(line: &[u8]) -> Result<(u8, &[u8]), Unread>
-    ensures value { ReadsAs (λ p. (p.0, words p.1.now)) result (spec.code_at (words line.now)) }
+fn code_at(line: &[u8]) -> Result<(u8, &[u8]), Misread>
+    ensures value { ReadsExactly (λ p. (p.0, words p.1.now)) result (spec.code_at (words line.now)) }
     ensures lawful { IfOk result (λ p. FIRST_ABORT ≤ p.0) }
 {
     let (word, rest) = word_at(line)?;

@@ -6,6 +6,7 @@ ghost use Rattle.steps.specs.CoreViews.{CoreView};
 ghost use Rattle.steps.specs.Schedules.{HandlesAll, images_in};
 ghost use Rattle.steps.specs.declared.schedules.Event.{Event};
 ghost use Rattle.steps.specs.declared.schedules.Handled.{Handled};
+ghost use Rattle.calcdb.specs.LiveRuns.{CutOffIsFront};
 ghost use Rattle.calcdb.specs.OwnFiles.{AreItsImages, AreRecovered, GivesTableNow, HasHistory};
 
 use commitlog::laws::written_log_law;
@@ -30,4 +31,14 @@ pub(crate) fn recovery_law<A: Allocator>(core: &Core<A>)
     fronts_law();
     openings_law();
     written_log_law();
+}
+
+/// What a file holds of a core's log that was written record by record is a front of the log, wherever it was
+/// cut off. So what `recovery_law` says of fronts holds of it: a chain of images whose last cut stands in it
+/// recovers, and so does the opening alone. Of what was written before, no record is lost.
+pub(crate) fn cut_off_law<A: Allocator>(core: &Core<A>)
+    ensures { CutOffIsFront core.now }
+{
+    // Brings in that the log has at most 1,000,000 records.
+    let _records = core.records();
 }

@@ -1,12 +1,11 @@
 //! A text as lines, and a line as words.
 
 ghost use Rattle.std.specs.Prelude.{◌≡◌, ◌<◌, ◌∷◌, length, option_map, position, IfSome};
-ghost use Rattle.calcdb.specs.Reads.{ReadsAs};
+ghost use Rattle.calcdb.specs.Reads.{ReadsExactly};
 ghost use Rattle.calcdb.specs.Lines as spec;
 ghost use Rattle.calcdb.specs.Lines.{left_pieces, pieces, words};
 
 use crate::faults::misreads::{Misread, Quote};
-use crate::faults::unread::Unread;
 
 fn is_line_feed(byte: u8) -> bool
     ensures { result ≡ spec.is_line_feed byte }
@@ -95,20 +94,27 @@ pub(crate) fn first_word(line: &[u8]) -> Option<(&[u8], &[u8])>
 }
 
 /// The first word of a line, and what stands after it.
-pub(crate) fn word_at(line: &[u8]) -> Result<(&[u8], &[u8]), Unread>
-    ensures { ReadsAs (λ p. (p.0.now, words p.1.now)) result (spec.first_word (words line.now)) }
+pub(crate) fn word_at(line: &[u8]) -> Result<(&[u8], &[u8]), Misread>
+    ensures { ReadsExactly (λ p. (p.0.now, words p.1.now)) result (spec.first_word (words line.now)) }
 {
-    first_word(line).ok_or(Unread::Faulty(Misread::MissingWord))
+    first_word(line).ok_or(Misread::MissingWord)
 }
 
 /// Nothing, where no word is left.
-pub(crate) fn end_of(line: &[u8]) -> Result<(), Unread>
-    ensures { ReadsAs (λ p. p) result (spec.no_word (words line.now)) }
+pub(crate) fn end_of(line: &[u8]) -> Result<(), Misread>
+    ensures { ReadsExactly (λ p. p) result (spec.no_word (words line.now)) }
 {
     match first_word(line) {
-        Some((word, _)) => Err(Unread::Faulty(Misread::MoreWords(Quote::of(word)))),
+        Some((word, _)) => Err(Misread::MoreWords(Quote::of(word))),
         None => Ok(()),
     }
+}
+
+/// Whether a word begins with `;`, so that its line says nothing.
+pub(crate) fn is_comment(word: &[u8]) -> bool
+    ensures { result ≡ spec.is_comment word.now }
+{
+    word.first() == Some(&b';')
 }
 
 /// Whether a line says nothing: it has no word, or its first one begins with `;`.
@@ -116,7 +122,20 @@ pub(crate) fn is_skipped(line: &[u8]) -> bool
     ensures { result ≡ spec.is_skipped (words line.now) }
 {
     match first_word(line) {
-        Some((word, _)) => word.first() == Some(&b';'),
+        Some((word, _)) => is_comment(word),
         None => true,
     }
+}
+
+/// How many words a line has.
+pub(crate) fn count_words(line: &[u8]) -> usize
+    ensures { result ≡ length (words line.now) }
+{
+    let mut count = 0;
+    let mut rest = line;
+    while let Some((_, behind)) = first_word(rest) {
+        count += 1;
+        rest = behind;
+    }
+    count
 }

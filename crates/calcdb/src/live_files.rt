@@ -3,10 +3,10 @@
 use crate::faults::failures::{Failure, OutFile, RunFile};
 use crate::live_runs::{LiveFolder, LiveLog};
 use crate::new_files::{NewFile, NewFolder, gathering, sync_folder};
-use crate::other_images::may_have_images;
+use crate::other_images::has_images;
 use std::alloc::Allocator;
 use std::fs::{self, File, OpenFile};
-use std::io::{self, Write};
+use std::io::{self, ErrorKind, Write};
 use std::rt::Files;
 
 impl<F: OpenFile + Write + Drop, A: Allocator> LiveLog for NewFile<F, A> {
@@ -21,6 +21,15 @@ impl<'a, A: Allocator + Copy> NewFolder<'a, A> {
         OutFile::InFolder(self.path, RunFile::Log)
     }
 
+    /// Refuses a folder that has an image, or can't be read.
+    fn refuse_images<R: Files + Alloc>(&self, rt: &R) -> Result<(), Failure<'a>> {
+        match has_images(rt, self.path) {
+            Ok(false) => Ok(()),
+            Err(error) if error.kind() == ErrorKind::OutOfMemory => Err(Failure::NoMemory),
+            _ => Err(Failure::CannotWrite(self.log())),
+        }
+    }
+
     /// The log of a new file, where the folder has no image.
     fn first_log<R: Files + Alloc>(
         &self,
@@ -30,10 +39,13 @@ impl<'a, A: Allocator + Copy> NewFolder<'a, A> {
     where
         R::File: Drop,
     {
-        if may_have_images(rt, self.path) {
-            return Err(Failure::CannotWrite(self.log()));
+        match self.refuse_images(rt) {
+            Ok(()) => gathering(self.alloc, file),
+            Err(failure) => {
+                drop(file);
+                Err(failure)
+            }
         }
-        gathering(self.alloc, file)
     }
 }
 

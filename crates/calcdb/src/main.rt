@@ -38,6 +38,7 @@ mod progress;
 mod recover_files;
 mod run;
 mod run_folder;
+mod run_task;
 mod scripts;
 mod show;
 mod tasks;

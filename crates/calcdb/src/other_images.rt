@@ -5,7 +5,7 @@ use crate::values::decimal_of;
 use image::Image;
 use std::alloc::Allocator;
 use std::rt::Files;
-use std::{fmt, fs};
+use std::{fmt, fs, io};
 
 /// Images of another run in a folder. They print as what is said of them.
 #[derive(Clone, Copy)]
@@ -77,16 +77,12 @@ pub(crate) fn other_images<'a, R: Files + Alloc, A: Allocator>(
     found
 }
 
-/// Whether a folder has an image of a run, or can't be read.
-pub(crate) fn may_have_images<R: Files + Alloc>(rt: &R, folder: &str) -> bool {
-    let Ok(entries) = fs::read_dir(&rt, folder) else {
-        return true;
-    };
-    for entry in entries {
-        match entry {
-            Ok(entry) if number_of_name(entry.file_name()).is_none() => {}
-            _ => return true,
+/// Whether a folder has an image of a run.
+pub(crate) fn has_images<R: Files + Alloc>(rt: &R, folder: &str) -> io::Result<bool> {
+    for entry in fs::read_dir(&rt, folder)? {
+        if number_of_name(entry?.file_name()).is_some() {
+            return Ok(true);
         }
     }
-    false
+    Ok(false)
 }

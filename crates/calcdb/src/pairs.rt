@@ -70,6 +70,7 @@ impl<A: Allocator + Clone> Pairs<A> {
         if self.table.len() >= ENTRIES {
             return Err(Unread::Faulty(Misread::ManyPairs));
         }
+        // A faulty text leaves no table, so the pair may go in before it is refused.
         match self.table.insert(key, held)? {
             None => Ok(()),
             Some(_before) => Err(Unread::Faulty(Misread::SameKey)),

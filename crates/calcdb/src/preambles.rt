@@ -8,7 +8,7 @@ ghost use Rattle.calcdb.specs.LineByLine.{TellsScript, size};
 ghost use Rattle.calcdb.specs.Lines.{left_lines, lines, words};
 ghost use Rattle.calcdb.specs.Preambles as spec;
 ghost use Rattle.calcdb.specs.Preambles.{as_preamble, preamble_after};
-ghost use Rattle.calcdb.specs.Reads.{ReadsAs};
+ghost use Rattle.calcdb.specs.Reads.{ReadsAs, ReadsExactly};
 ghost use Rattle.calcdb.specs.declared.scripts.ScriptFault.TheVariants as fault;
 ghost use Rattle.calcdb.specs.declared.scripts.TheConstants.{SCRIPT_BYTES};
 
@@ -141,24 +141,24 @@ fn begins_block(line: &[u8]) -> bool
 fn new_name<'a, A: Allocator>(
     names: &Names<A>,
     line: &'a [u8],
-) -> Result<(&'a [u8], &'a [u8]), Unread>
-    ensures value { ReadsAs (λ p. (p.0.now, words p.1.now)) result (spec.new_name names.now (words line.now)) }
+) -> Result<(&'a [u8], &'a [u8]), Misread>
+    ensures value { ReadsExactly (λ p. (p.0.now, words p.1.now)) result (spec.new_name names.now (words line.now)) }
     ensures name { IfOk result (λ p. is_name p.0.now ≡ true) }
 {
     let (word, rest) = word_at(line)?;
     if !is_name(word) {
-        return Err(Unread::Faulty(Misread::NoName(Quote::of(word))));
+        return Err(Misread::NoName(Quote::of(word)));
     }
     match number_of_name(names, word) {
-        Some(_) => Err(Unread::Faulty(Misread::SameName(Quote::of(word)))),
+        Some(_) => Err(Misread::SameName(Quote::of(word))),
         None => Ok((word, rest)),
     }
 }
 
 /// How many arguments, alone.
 #[tactic(auto, unfolding(crate::specs::Preambles::arity_of))]
-fn arity_of(line: &[u8]) -> Result<u8, Unread>
-    ensures value { ReadsAs (λ n. n) result (spec.arity_of (words line.now)) }
+fn arity_of(line: &[u8]) -> Result<u8, Misread>
+    ensures value { ReadsExactly (λ n. n) result (spec.arity_of (words line.now)) }
     ensures fits { IfOk result (λ n. n ≤ 8) }
 {
     let (word, rest) = word_at(line)?;
@@ -169,15 +169,15 @@ fn arity_of(line: &[u8]) -> Result<u8, Unread>
 
 /// A new name, and how many arguments its procedure takes.
 #[tactic(auto, unfolding(crate::specs::Preambles::heading_of))]
-fn heading_of<A: Allocator>(names: &Names<A>, line: &[u8]) -> Result<(Key, u8), Unread>
-    ensures value { ReadsAs (λ h. (h.0, h.1)) result (spec.heading_of names.now (words line.now)) }
+fn heading_of<A: Allocator>(names: &Names<A>, line: &[u8]) -> Result<(Key, u8), Misread>
+    ensures value { ReadsExactly (λ h. (h.0, h.1)) result (spec.heading_of names.now (words line.now)) }
     ensures fits { IfOk result (λ h. h.1 ≤ 8) }
 {
     let (name, rest) = new_name(names, line)?;
     let arity = arity_of(rest)?;
     match Key::new(name) {
         Some(key) => Ok((key, arity)),
-        None => Err(Unread::Faulty(Misread::NoName(Quote::of(name)))),
+        None => Err(Misread::NoName(Quote::of(name))),
     }
 }
 
@@ -282,6 +282,7 @@ impl<A: Allocator + Clone> Said<A> {
     ) -> Result<Preamble<'a, A>, ScriptFault>
         ensures says { TellsScript as_preamble result (spec.preamble_said self line (left_lines (option_map (λ t. t.now) left.entry))) }
         ensures left { IfOk result (λ p. (p.line ≡ line) × (p.left ≡ left.entry)) }
+        ensures err { IfErr result (λ e. spec.preamble_said self line (left_lines (option_map (λ t. t.now) left.entry)) ≡ Err e) }
     {
         let Said {
             names,

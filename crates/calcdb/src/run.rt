@@ -4,6 +4,7 @@ ghost use Rattle.std.specs.Prelude.{◌≡◌, ◌≤◌, ◌+◌, ◌++◌, [],
 ghost use Rattle.std.specs.Io.KnownBytes.{Appends};
 ghost use Rattle.procedure.specs.Bytes.{Bytes};
 ghost use Rattle.phase.specs.Phases.{phase_text};
+ghost use Rattle.steps.specs.declared.schedules.Event.TheVariants as event;
 ghost use Rattle.calcdb.specs.Journals.{IsKept, SentUnlessUnkept, StopsIn, Taken, images_given, taken_of, with_more};
 ghost use Rattle.calcdb.specs.Runs.{Calls, Carried, Carries, CarriesAll, Ends, GoesOn, Images, Says, Scans, Sent, count_of, images_shown, reply_text, shown_text};
 
@@ -13,13 +14,14 @@ use crate::journals::{Journal, Stop};
 use crate::output::{
     phase_name, push_answer, push_image, push_key, push_numbered, push_refusal, push_text,
 };
+use crate::show::write_image_lines;
 use image::Image;
 use phase::Phase;
 use procedure::NoMemory;
 use procedure::streams::{WriteFault, write_out};
 use std::alloc::Allocator;
 use std::io::Write;
-use steps::schedules::{Event, Handled, Reply};
+use steps::schedules::Reply;
 use steps::{Captured, Core, Stepped};
 
 /// How many instructions a procedure of the core has; 0 where there is none.
@@ -105,14 +107,13 @@ fn scan<A: Allocator + Clone>(core: &mut Core<A>) -> Shown<A>
     }
 }
 
-/// Carries out one event.
-fn handle<A: Allocator + Clone>(core: &mut Core<A>, event: Event<A>) -> Shown<A>
-    ensures { Carried {A = A} (Says event) core.old core.new (shown_text result) (images_shown result) }
+/// Takes the image that waits, if one does.
+fn take_image<A: Allocator>(core: &mut Core<A>) -> Shown<A>
+    ensures { Carried {A = A} (Says event.TakeImage) core.old core.new (shown_text result) (images_shown result) }
 {
-    let Handled { reply, image } = core.handle(event);
-    match image {
+    match core.take_image() {
         Some(image) => Shown::Image(image),
-        None => Shown::Reply(reply),
+        None => Shown::Reply(Reply::TakeImage(false)),
     }
 }
 
@@ -131,22 +132,20 @@ pub(crate) fn carry_out<A: Allocator + Clone>(
                 procedure,
                 args,
             } = call;
-            handle(
-                core,
-                Event::Begin(session, number, procedure, args.into_values()),
-            )
+            let begun = core.begin(session, number, procedure, args.into_values());
+            Shown::Reply(Reply::Begin(begun))
         }
-        Command::Step(session) => handle(core, Event::Step(session)),
-        Command::Finish(session) => handle(core, Event::Finish(session)),
-        Command::GiveUp(session) => handle(core, Event::GiveUp(session)),
+        Command::Step(session) => Shown::Reply(Reply::Step(core.step(session))),
+        Command::Finish(session) => Shown::Reply(Reply::Finish(core.finish(session))),
+        Command::GiveUp(session) => Shown::Reply(Reply::GiveUp(core.give_up(session))),
         Command::Call(call) => Shown::Reply(run_call(core, call)),
-        Command::Start(kind) => handle(core, Event::Start(kind)),
-        Command::Advance => handle(core, Event::Advance),
-        Command::Capture => handle(core, Event::Capture),
+        Command::Start(kind) => Shown::Reply(Reply::Start(core.start(kind))),
+        Command::Advance => Shown::Reply(Reply::Advance(core.advance())),
+        Command::Capture => Shown::Reply(Reply::Capture(core.capture())),
         Command::Scan => scan(core),
-        Command::TakeImage => handle(core, Event::TakeImage),
-        Command::Reclaim => handle(core, Event::Reclaim),
-        Command::Abandon => handle(core, Event::Abandon),
+        Command::TakeImage => take_image(core),
+        Command::Reclaim => Shown::Reply(Reply::Reclaim(core.reclaim())),
+        Command::Abandon => Shown::Reply(Reply::Abandon(core.abandon())),
     }
 }
 
@@ -226,7 +225,7 @@ fn keep_image<A: Allocator>(images: &mut Vec<Image<A>, A>, shown: Shown<A>)
     }
 }
 
-/// Writes the lines that are printed of a command.
+/// Writes the lines that are printed of a command, those of an image one by one.
 fn write_shown<W: Write, A: Allocator + Clone>(
     writer: &mut W,
     line: &mut Vec<u8, A>,
@@ -234,6 +233,9 @@ fn write_shown<W: Write, A: Allocator + Clone>(
 ) -> Result<(), Fault>
     ensures { Sent result (W.contents writer.old) (W.contents writer.new) (shown_text shown.now) }
 {
+    if let Shown::Image(image) = shown {
+        return write_image_lines(writer, line, image);
+    }
     match print_line(line, shown) {
         Ok(()) => {}
         Err(NoMemory) => return Err(Fault::NoMemory),

@@ -1,6 +1,6 @@
 //! Scripts, checked whole before anything runs.
 
-ghost use Rattle.std.specs.Prelude.{◌≡◌, ◌≤◌, ◌+◌, Ok, option_map};
+ghost use Rattle.std.specs.Prelude.{◌≡◌, ◌≤◌, ◌+◌, ◌∷◌, Ok, option_map};
 ghost use Rattle.calcdb.specs.LineByLine.{TellsScript, size};
 ghost use Rattle.calcdb.specs.Lines.{words};
 ghost use Rattle.calcdb.specs.Preambles.{as_preamble};
@@ -13,7 +13,7 @@ use crate::commands::{Arguments, Command, Names, ReadCommand};
 use crate::faults::misreads::{FaultyLine, Misread};
 use crate::faults::unread::Unread;
 use crate::line_by_line::{LineReader, read_lines};
-use crate::lines::{is_allowed, is_skipped};
+use crate::lines::{first_word, is_allowed, is_comment};
 use crate::preambles::{Preamble, read_preamble};
 use crate::thread_commands::ThreadCommand;
 use procedure::{Catalog, Sequence, Value};
@@ -62,12 +62,12 @@ impl<C, A: Allocator> Model for Commands<C, A> {
 }
 
 impl<C: ReadCommand<A> + Drop, A: Allocator + Clone> Commands<C, A> {
-    /// Reads a command.
-    fn push(&mut self, line: &[u8]) -> Result<(), Unread>
-        ensures { ReadsAs (λ _. self.new) result (spec.with_command C.reads self.old (words line.now)) }
+    /// Reads a command, by its first word and what stands after that.
+    fn push(&mut self, word: &[u8], rest: &[u8]) -> Result<(), Unread>
+        ensures { ReadsAs (λ _. self.new) result (spec.with_command C.reads self.old (word.now ∷ words rest.now)) }
     {
         let alloc = self.list.allocator().clone()?;
-        self.list.push(C::read(alloc, &self.names, line)?)?;
+        self.list.push(C::read(alloc, &self.names, word, rest)?)?;
         Ok(())
     }
 
@@ -75,10 +75,10 @@ impl<C: ReadCommand<A> + Drop, A: Allocator + Clone> Commands<C, A> {
     fn read_words(&mut self, line: &[u8]) -> Result<(), Unread>
         ensures { ReadsAs (λ _. self.new) result (spec.commands_after_words C.reads self.old (words line.now)) }
     {
-        if is_skipped(line) {
-            return Ok(());
+        match first_word(line) {
+            Some((word, rest)) if !is_comment(word) => self.push(word, rest),
+            _ => Ok(()),
         }
-        self.push(line)
     }
 }
 

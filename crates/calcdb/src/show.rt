@@ -5,7 +5,7 @@ ghost use Rattle.std.specs.declared.result.Result.{Result};
 ghost use Rattle.std.specs.Io.KnownBytes.{Appends};
 ghost use Rattle.procedure.specs.Bytes.{Bytes};
 ghost use Rattle.commitlog.specs.Records.{Token, record_of};
-ghost use Rattle.calcdb.specs.Output.{entries_text, entry_text, image_text};
+ghost use Rattle.calcdb.specs.Output.{entries_text, entry_text, header_line, image_text};
 ghost use Rattle.calcdb.specs.Showing as spec;
 ghost use Rattle.calcdb.specs.Showing.{AgreesWithPrint, BreaksOff, HasLogMagic, EndsShow, IsShown, Prints, PrintsImage, PrintsLog, StopsIn, log_text};
 ghost use Rattle.calcdb.specs.declared.faults.Reason.{Reason};
@@ -13,7 +13,8 @@ ghost use Rattle.calcdb.specs.declared.faults.Reason.{Reason};
 use crate::faults::refusals::{refuse, say_no_memory, write_header, write_line};
 use crate::faults::{Fault, Reason};
 use crate::output::{
-    phase_name, push_decimal, push_entry, push_outcome, push_replies, push_text, push_value,
+    phase_name, push_decimal, push_entry, push_header_line, push_outcome, push_replies, push_text,
+    push_value,
 };
 use commitlog::{Ending, Entry as LogEntry, Record, Version, read_log};
 use image::{Entry, Image, read_image};
@@ -214,6 +215,35 @@ fn write_entries<W: Write, A: Allocator + Clone, B: Allocator>(
         write_entry(writer, line, entry)?;
     }
     Ok(())
+}
+
+/// Writes the header line of an image.
+fn write_header_line<W: Write, A: Allocator, B: Allocator>(
+    writer: &mut W,
+    line: &mut Vec<u8, A>,
+    image: &Image<B>,
+) -> Result<(), Fault>
+    ensures ok { OnOk result (Appends (W.contents writer.old) (W.contents writer.new) (header_line image.now)) }
+    ensures err { IfErr result (λ f. BreaksOff (header_line image.now) (W.contents writer.old) (W.contents writer.new) f) }
+{
+    line.clear();
+    match push_header_line(line, image) {
+        Ok(()) => write_line(writer, line.as_slice()),
+        Err(NoMemory) => Err(Fault::NoMemory),
+    }
+}
+
+/// Writes an image among other lines, each of its own in place of what is in the buffer.
+pub(crate) fn write_image_lines<W: Write, A: Allocator + Clone, B: Allocator>(
+    writer: &mut W,
+    line: &mut Vec<u8, A>,
+    image: &Image<B>,
+) -> Result<(), Fault>
+    ensures ok { OnOk result (Appends (W.contents writer.old) (W.contents writer.new) (image_text image.now)) }
+    ensures err { IfErr result (λ f. BreaksOff (image_text image.now) (W.contents writer.old) (W.contents writer.new) f) }
+{
+    write_header_line(writer, line, image)?;
+    write_entries(writer, line, image.entries())
 }
 
 /// Writes an image, line by line.

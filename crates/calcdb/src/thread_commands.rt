@@ -2,7 +2,7 @@
 
 ghost use Rattle.calcdb.specs.Commands as commands;
 ghost use Rattle.calcdb.specs.Lines.{words};
-ghost use Rattle.calcdb.specs.Reads.{ReadsAs};
+ghost use Rattle.calcdb.specs.Reads.{ReadsAs, ReadsExactly};
 ghost use Rattle.calcdb.specs.ThreadCommands as spec;
 ghost use Rattle.calcdb.specs.Values.{held_value_of};
 
@@ -10,7 +10,7 @@ use crate::commands::{Names, NewCall, ReadCommand, kind_of, number_at, procedure
 use crate::faults::misreads::{Misread, Quote};
 use crate::faults::unread::Unread;
 use crate::instructions::is_word;
-use crate::lines::{end_of, first_word, word_at};
+use crate::lines::{count_words, end_of, first_word, word_at};
 use crate::values::{held_of, key_of};
 use image::Kind;
 use procedure::limits::SESSIONS;
@@ -44,7 +44,7 @@ enum ThreadCommandName {
 fn values_of<A: Allocator + Clone>(alloc: A, line: &[u8]) -> Result<Sequence<Value<A>, A>, Unread>
     ensures { ReadsAs (λ v. v) result (commands.values_by held_value_of (words line.now)) }
 {
-    let mut values = Vec::new(alloc.clone()?);
+    let mut values = Vec::with_capacity(alloc.clone()?, count_words(line))?;
     let mut rest = line;
     while let Some((word, behind)) = first_word(rest) {
         values.push(held_of(alloc.clone()?, word)?)?;
@@ -85,8 +85,8 @@ fn key_alone<A: Allocator>(alloc: A, line: &[u8]) -> Result<Key, Unread>
     Ok(key)
 }
 
-fn command_name(word: &[u8]) -> Result<ThreadCommandName, Unread>
-    ensures { ReadsAs (λ c. c) result (spec.thread_command_name word.now) }
+fn command_name(word: &[u8]) -> Result<ThreadCommandName, Misread>
+    ensures { ReadsExactly (λ c. c) result (spec.thread_command_name word.now) }
 {
     if is_word(word, b"call") {
         Ok(ThreadCommandName::Call)
@@ -95,24 +95,16 @@ fn command_name(word: &[u8]) -> Result<ThreadCommandName, Unread>
     } else if is_word(word, b"view") {
         Ok(ThreadCommandName::View)
     } else {
-        Err(Unread::Faulty(Misread::NoCommand(Quote::of(word))))
+        Err(Misread::NoCommand(Quote::of(word)))
     }
-}
-
-fn command_at(line: &[u8]) -> Result<(ThreadCommandName, &[u8]), Unread>
-    ensures { ReadsAs (λ p. (p.0, words p.1.now)) result (spec.thread_command_at (words line.now)) }
-{
-    let (word, rest) = word_at(line)?;
-    Ok((command_name(word)?, rest))
 }
 
 impl<A: Allocator + Clone> ReadCommand<A> for ThreadCommand<Sequence<Value<A>, A>> {
     ghost reads = { spec.thread_command_of };
 
     #[tactic(auto, unfolding(crate::specs::ThreadCommands::thread_command_of))]
-    fn read(alloc: A, names: &Names<A>, line: &[u8]) -> Result<Self, Unread> {
-        let (name, rest) = command_at(line)?;
-        match name {
+    fn read(alloc: A, names: &Names<A>, word: &[u8], rest: &[u8]) -> Result<Self, Unread> {
+        match command_name(word)? {
             ThreadCommandName::Call => Ok(ThreadCommand::Call(call_of(alloc, names, rest)?)),
             ThreadCommandName::Checkpoint => Ok(ThreadCommand::Checkpoint(kind_of(rest)?)),
             ThreadCommandName::View => Ok(ThreadCommand::View(key_alone(alloc, rest)?)),

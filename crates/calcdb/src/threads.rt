@@ -358,15 +358,18 @@ fn run_text<W: Write, T: Threads + Wait + Sync, A: Allocator + Copy + Send + Syn
     threads: &T,
     alloc: A,
     writer: &mut W,
-    text: &[u8],
+    text: Vec<u8, A>,
     opening: Image<A>,
     gate: &G,
 ) -> Result<Ran<A>, Fault>
     requires { is_opening opening ≡ true }
-    ensures run { IfOk result (λ r. (out : Bytes) × RunsToEnd (thread_script_of text.now) opening r.core r.images.items out × Appends (W.contents writer.old) (W.contents writer.new) out) }
-    ensures fault { IfErr result (EndsInThreads (thread_script_of text.now) opening (W.contents writer.old) (W.contents writer.new)) }
+    ensures run { IfOk result (λ r. (out : Bytes) × RunsToEnd (thread_script_of text.items) opening r.core r.images.items out × Appends (W.contents writer.old) (W.contents writer.new) out) }
+    ensures fault { IfErr result (EndsInThreads (thread_script_of text.items) opening (W.contents writer.old) (W.contents writer.new)) }
 {
-    match read_thread_script(alloc, text) {
+    let read = read_thread_script(alloc, text.as_slice());
+    // Its memory isn't needed while the script is carried out.
+    drop(text);
+    match read {
         Ok(script) => run_opened(threads, alloc, writer, script, opening, gate),
         Err(fault) => Err(refuse_script(alloc, writer, fault)),
     }
@@ -407,5 +410,5 @@ pub(crate) fn run_threads<
         Err(Unread::ReadFault) => return Err(Fault::Read),
         Err(Unread::NoMemory) => return Err(Fault::NoMemory),
     };
-    run_text(threads, alloc, writer, text.as_slice(), opening, gate)
+    run_text(threads, alloc, writer, text, opening, gate)
 }

@@ -1,7 +1,7 @@
 //! Decimals and values.
 
 ghost use Rattle.std.specs.Prelude.{◌≡◌, ◌≤◌, ◌+◌, ◌*◌, IfOk, IfSome};
-ghost use Rattle.calcdb.specs.Reads.{ReadsAs};
+ghost use Rattle.calcdb.specs.Reads.{ReadsAs, ReadsExactly};
 ghost use Rattle.calcdb.specs.Values as spec;
 
 use crate::faults::misreads::{Misread, Quote};
@@ -53,8 +53,8 @@ fn number_of_digits(most: u64, digits: &[u8]) -> Option<u64>
 
 /// A decimal of one or more digits, at most so great.
 #[tactic(auto, unfolding(crate::specs::Values::decimal_of))]
-pub(crate) fn decimal_of(most: u64, word: &[u8]) -> Result<u64, Unread>
-    ensures value { ReadsAs (λ n. n) result (spec.decimal_of most word.now) }
+pub(crate) fn decimal_of(most: u64, word: &[u8]) -> Result<u64, Misread>
+    ensures value { ReadsExactly (λ n. n) result (spec.decimal_of most word.now) }
     ensures fits { IfOk result (λ n. n ≤ most) }
 {
     let number = if word.is_empty() {
@@ -64,7 +64,7 @@ pub(crate) fn decimal_of(most: u64, word: &[u8]) -> Result<u64, Unread>
     };
     match number {
         Some(number) => Ok(number),
-        None => Err(Unread::Faulty(Misread::NoNumber(Quote::of(word), most))),
+        None => Err(Misread::NoNumber(Quote::of(word), most)),
     }
 }
 

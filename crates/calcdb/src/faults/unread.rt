@@ -15,6 +15,14 @@ pub(crate) enum Unread {
     NoMemory,
 }
 
+impl From<Misread> for Unread {
+    ghost from_gives = { λ why e. e ≡ unread.Faulty why };
+
+    fn from(why: Misread) -> Self {
+        Unread::Faulty(why)
+    }
+}
+
 impl From<NoMemory> for Unread {
     ghost from_gives = { λ _ e. e ≡ unread.NoMemory };
 

@@ -77,13 +77,19 @@ fn check_writer(
     Ok(())
 }
 
-/// A writer that takes one byte a call, or all. Each command is written by one call, where that takes all.
+/// How many bytes and how many lines a row writes.
+fn sizes_of(alloc: Global, row: &Row<'_>) -> Result<(usize, usize), Fail> {
+    let answers = answers_of(alloc, row.lines.as_slice())?;
+    Ok((answers.len(), answers.as_str().lines().count()))
+}
+
+/// A writer that takes one byte a call, or all. Each line is written by one call, where that takes all.
 #[test]
 fn failing_writer(rt: HostRuntime) -> Result<(), Fail> {
     for row in &rows(rt.alloc())? {
-        let bytes = answers_of(rt.alloc(), row.lines.as_slice())?.len();
+        let (bytes, lines) = sizes_of(rt.alloc(), row)?;
         check_writer(&rt, rt.alloc(), row, (1, bytes))?;
-        check_writer(&rt, rt.alloc(), row, (PLENTY, row.lines.len()))?;
+        check_writer(&rt, rt.alloc(), row, (PLENTY, lines))?;
     }
     Ok(())
 }

@@ -69,18 +69,22 @@ where
     )
 }
 
+/// Where what is written has no name; and where it has one, but no script is there.
+fn statuses<R: Files + AllocGlobal + Threads + Wait + Sync>(rt: &R) -> [u8; 5]
+where
+    R::File: Drop,
+{
+    [
+        status_of(rt, &["calcdb", "load", "none", ""]),
+        status_of(rt, &["calcdb", "merge", "", "none"]),
+        status_of(rt, &["calcdb", "recover", "none", "none", "", "none"]),
+        status_of(rt, &["calcdb", "run", "none", "--out", ""]),
+        status_of(rt, &["calcdb", "run", "none", "--out", "none"]),
+    ]
+}
+
 /// What is written has a name.
 #[test]
 fn empty_names(rt: HostRuntime) {
-    assert_eq!(rt; status_of(&rt, &["calcdb", "load", "none", ""]), 2);
-    assert_eq!(rt; status_of(&rt, &["calcdb", "merge", "", "none"]), 2);
-    assert_eq!(rt;
-        status_of(&rt, &["calcdb", "recover", "none", "none", "", "none"]),
-        2
-    );
-    assert_eq!(rt; status_of(&rt, &["calcdb", "run", "none", "--out", ""]), 2);
-    assert_eq!(rt;
-        status_of(&rt, &["calcdb", "run", "none", "--out", "none"]),
-        1
-    );
+    assert_eq!(rt; statuses(&rt), [2, 2, 2, 2, 1]);
 }

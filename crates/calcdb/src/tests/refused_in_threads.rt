@@ -7,13 +7,14 @@ use crate::tests::fixtures::opened;
 use crate::tests::growths::{Fallible, MOST};
 use crate::tests::many_sessions::{Outcome, outcome_of_report, outcome_of_stream, scripts_of};
 use image::Kind;
-use std::alloc::Global;
+use std::alloc::{Allocator, Global};
 use std::marker::Brand;
 use std::sync::Wait;
 use std::test::Fail;
 use std::thread::Threads;
+use steps::Core;
 use view::{Naming, Opened, Publisher, open_view};
-use workers::{Open, TURNS, run_all, run_streamed};
+use workers::{NotRun, Open, Script, TURNS, run_all, run_streamed};
 
 const KINDS: [Kind; 2] = [Kind::Full, Kind::Partial];
 
@@ -38,27 +39,57 @@ fn is_right(outcome: &Outcome) -> bool {
     outcome.gathered.is_ok() && outcome.audited.is_ok() && outcome.chains == outcome.same
 }
 
+/// The publisher and the core go, and nothing was begun: whether the log is empty.
+fn not_begun<J: Naming, R: Wait, A: Allocator + Copy>(not_run: NotRun<J, &R, A>) -> bool {
+    let NotRun { core, publisher } = not_run;
+    let is_empty = core.records().is_empty();
+    drop(core);
+    drop(publisher);
+    is_empty
+}
+
+/// Runs with a growth refused, over what was made before.
 fn ran<'a, J: Naming + Send + Sync, R: Threads + Wait + Sync>(
     rt: &R,
     heap: &'a Fallible<Global>,
     publisher: Publisher<J, &R, &'a Fallible<Global>>,
+    core: Core<&'a Fallible<Global>>,
+    scripts: Vec<Script<&'a Fallible<Global>>, &'a Fallible<Global>>,
     refused: u64,
 ) -> Result<Tried, Fail> {
-    let scripts = scripts_of(heap, SESSIONS, CALLS)?;
-    let core = opened(heap, "")?;
     heap.arm(refused);
     let ran = run_all(rt, heap, core, scripts, &KINDS, publisher, &Open);
     let asked = heap.asked();
     heap.arm(0);
     let (begun, right) = match ran {
         Ok(report) => (true, is_right(&outcome_of_report(heap, report)?)),
-        Err(not_run) => (false, not_run.core.records().is_empty()),
+        Err(not_run) => (false, not_begun(not_run)),
     };
     Ok(Tried {
         asked,
         begun,
         right,
     })
+}
+
+/// A core over the empty table, and the calls of its sessions.
+fn prepared<'a>(
+    heap: &'a Fallible<Global>,
+) -> Result<
+    (
+        Core<&'a Fallible<Global>>,
+        Vec<Script<&'a Fallible<Global>>, &'a Fallible<Global>>,
+    ),
+    Fail,
+> {
+    let core = opened(heap, "")?;
+    match scripts_of(heap, SESSIONS, CALLS) {
+        Ok(scripts) => Ok((core, scripts)),
+        Err(fail) => {
+            drop(core);
+            Err(fail)
+        }
+    }
 }
 
 fn ran_in_view<'a, J: Naming + Send + Sync, R: Threads + Wait + Sync>(
@@ -70,8 +101,19 @@ fn ran_in_view<'a, J: Naming + Send + Sync, R: Threads + Wait + Sync>(
     requires { name_of opened_view ≡ J.book }
 {
     heap.arm(0);
-    let (publisher, _, _) = open_view::<J, &R, &'a Fallible<Global>>(heap, rt, opened_view)?;
-    ran(rt, heap, publisher, refused)
+    let (core, scripts) = prepared(heap)?;
+    match open_view::<J, &R, &'a Fallible<Global>>(heap, rt, opened_view) {
+        Ok((publisher, looker, seen)) => {
+            drop(looker);
+            drop(seen);
+            ran(rt, heap, publisher, core, scripts, refused)
+        }
+        Err(unopened) => {
+            drop(core);
+            drop(scripts);
+            Err(unopened.into())
+        }
+    }
 }
 
 fn ran_streamed<R: Threads + Wait + Sync>(

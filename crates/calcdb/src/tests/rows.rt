@@ -161,7 +161,7 @@ pub(crate) fn check_row<R: Abort + AllocGlobal>(
 
 /// The same, where the run isn't wanted.
 pub(crate) fn check_alone<R: Abort + AllocGlobal>(rt: &R, row: &Row<'_>) -> Result<(), Fail> {
-    let _ran = check_row(rt, row)?;
+    drop(check_row(rt, row)?);
     Ok(())
 }
 

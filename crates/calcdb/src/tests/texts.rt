@@ -412,7 +412,7 @@ fn lengths_of_arguments(rt: HostRuntime) -> Result<(), Fail> {
     let script = long_arguments(rt.alloc())?;
     let answers =
         "ok\nready\nplace 0 aborted 5\nrefused arg size\nrefused not active\nrefused not active\nok\nready\nplace 1 aborted 5\nok\nready\nplace 2 committed -\n";
-    let _ran = check_over(&rt, "arguments", script.as_str(), "", answers)?;
+    drop(check_over(&rt, "arguments", script.as_str(), "", answers)?);
     let written = driven(rt.alloc(), script.as_str(), "")?;
     check_named(&rt, "arguments", written.as_slice(), answers);
     Ok(())

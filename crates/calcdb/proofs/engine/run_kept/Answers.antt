@@ -1,4 +1,4 @@
-use Rattle.std.proofs.Common.{◌≡◌, refl, sym, ◌∙◌, subst, ap}
+use Rattle.std.proofs.Common.{◌≡◌, refl, sym, ◌∙◌, subst}
 use Rattle.std.proofs.lemmas.Result.{IfErr-weaker, IfOk-weaker}
 use Rattle.calcdb.specs.Journals.{LeavesJournal}
 use Rattle.calcdb.specs.Outcomes.{EndsRun, RunsTo}
@@ -21,7 +21,7 @@ returns-clause-run g c =
     IfOk-weaker c.run_text.result _ _
     (λ r h source known.
     let same = same_reading schedule_of (long_scripts command_of) (g.I.Read.remaining c.args.reader.now) (g.I.Read.remaining c.read_past.new.reader) source c.in-Ok.text.items known c.in-Ok.ensures.read c.in-Ok.ensures.end in
-    (h.0, subst (λ says. RunsTo g.row.A.Denot says c.args.opening r.core h.0 r.images.items) (ap schedule_of c.as_slice.ensures.value ∙ sym same) h.1, h.2))
+    (h.0, subst (λ says. RunsTo g.row.A.Denot says c.args.opening r.core h.0 r.images.items) (sym same) h.1, h.2))
     c.run_text.ensures.run
 
 pub returns-clause-fault : goal.returns-clause-fault
@@ -32,7 +32,7 @@ returns-clause-fault g c =
     (λ s h. if_fault_weaker g.row.J-Failure.Denot _ _ s
     (λ f ends source known.
     let same = same_reading schedule_of (long_scripts command_of) (g.I.Read.remaining c.args.reader.now) (g.I.Read.remaining c.read_past.new.reader) source c.in-Ok.text.items known c.in-Ok.ensures.read c.in-Ok.ensures.end in
-    subst (λ says. EndsRun g.row.A.Denot says c.args.opening old new f) (ap schedule_of c.as_slice.ensures.value ∙ sym same) ends) h)
+    subst (λ says. EndsRun g.row.A.Denot says c.args.opening old new f) (sym same) ends) h)
     c.run_text.ensures.fault
 
 pub returns-clause-stopped : goal.returns-clause-stopped
@@ -44,5 +44,5 @@ returns-clause-stopped g c =
     IfErr-weaker c.run_text.result _ _
     (λ s h source known.
     let same = same_reading schedule_of (long_scripts command_of) (g.I.Read.remaining c.args.reader.now) (g.I.Read.remaining c.read_past.new.reader) source c.in-Ok.text.items known c.in-Ok.ensures.read c.in-Ok.ensures.end in
-    subst (λ says. LeavesJournal g.row.A.Denot says c.args.opening old new (journal ≡ start) (g.J.Journal.Has start journal) (g.J.Journal.HasFront start journal) s) (ap schedule_of c.as_slice.ensures.value ∙ sym same) h)
+    subst (λ says. LeavesJournal g.row.A.Denot says c.args.opening old new (journal ≡ start) (g.J.Journal.Has start journal) (g.J.Journal.HasFront start journal) s) (sym same) h)
     c.run_text.ensures.stopped

@@ -3,12 +3,12 @@ use Rattle.calcdb.specs.Instructions as spec
 use Rattle.calcdb.specs.Lines.{words}
 use Rattle.calcdb.specs.Reads.{ReadsAs}
 use Rattle.calcdb.proofs.InstructionLines as line
-use Rattle.calcdb.proofs.Readers.{handed_on}
+use Rattle.calcdb.proofs.Readers.{fault_handed_on, handed_on}
 use Rattle.calcdb.proofs.instructions.instruction_of.Goals as goal
 
 pub returns-in_err-verb-clause-value : goal.returns-in_err-verb-clause-value
 returns-in_err-verb-clause-value g c =
-    handed_on (λ i. i) c.from_residual.result c.in_err-verb.field-0.0 (spec.verb_at (words c.args.line.now)) (spec.instruction_of c.args.arity (words c.args.line.now)) c.from_residual.ensures.1
+    fault_handed_on (λ i. i) c.from_residual.result c.in_err-verb.field-0.0 (spec.verb_at (words c.args.line.now)) (spec.instruction_of c.args.arity (words c.args.line.now)) c.from_residual.ensures.1
     c.in_err-verb.ensures
     (line.no_verb c.args.arity (words c.args.line.now))
 

@@ -1,4 +1,4 @@
-use Rattle.std.proofs.Common.{inl, inr, refl, sym, ◌∙◌, subst, ap}
+use Rattle.std.proofs.Common.{inl, inr, refl, sym, ◌∙◌, subst}
 use Rattle.std.proofs.lemmas.Result.{IfErr-weaker, IfOk-weaker}
 use Rattle.calcdb.specs.ThreadOutcomes.{EndsInThreads, RunsToEnd}
 use Rattle.calcdb.specs.Scripts.{thread_script_of}
@@ -17,7 +17,7 @@ returns-clause-run g c =
     IfOk-weaker c.run_text.result _ _
     (λ r h source known.
     let same = same_reading thread_script_of (long_scripts thread_command_of) (g.R.Read.remaining c.args.reader.now) (g.R.Read.remaining c.read_past.new.reader) source c.in-Ok.text.items known c.in-Ok.ensures.read c.in-Ok.ensures.end in
-    (h.0, subst (λ says. RunsToEnd says c.args.opening r.core r.images.items h.0) (ap thread_script_of c.as_slice.ensures.value ∙ sym same) h.1, h.2))
+    (h.0, subst (λ says. RunsToEnd says c.args.opening r.core r.images.items h.0) (sym same) h.1, h.2))
     c.run_text.ensures.run
 
 pub returns-clause-fault : goal.returns-clause-fault
@@ -27,5 +27,5 @@ returns-clause-fault g c =
     IfErr-weaker c.run_text.result _ _
     (λ f h source known.
     let same = same_reading thread_script_of (long_scripts thread_command_of) (g.R.Read.remaining c.args.reader.now) (g.R.Read.remaining c.read_past.new.reader) source c.in-Ok.text.items known c.in-Ok.ensures.read c.in-Ok.ensures.end in
-    subst (λ says. EndsInThreads says c.args.opening old new f) (ap thread_script_of c.as_slice.ensures.value ∙ sym same) h)
+    subst (λ says. EndsInThreads says c.args.opening old new f) (sym same) h)
     c.run_text.ensures.fault
