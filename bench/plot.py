@@ -109,7 +109,7 @@ def panel(top, name, end, calls, found, parts):
     for step in range(6):
         rate = most * step / 5
         out.append(f'<line x1="{LEFT}" x2="{LEFT + wide}" y1="{down(rate):.1f}" y2="{down(rate):.1f}" stroke="#cccccc"/>')
-        out.append(f'<text x="{LEFT - 8}" y="{down(rate) + 4:.1f}" text-anchor="end">{rate / 1e6:.1f} million</text>')
+        out.append(f'<text x="{LEFT - 8}" y="{down(rate) + 4:.1f}" text-anchor="end">{rate / 1e6:.2f} million</text>')
         out.append(f'<text x="{across(step / 5):.1f}" y="{top + HEIGHT + 18}" text-anchor="middle">{end * step / 5 * 1e3:.0f} ms</text>')
     points = " ".join(f"{across((at + 0.5) / BINS):.1f},{down(rate):.1f}" for at, rate in enumerate(found))
     out.append(f'<polyline points="{points}" fill="none" stroke="#1f5fa8" stroke-width="2"/>')
