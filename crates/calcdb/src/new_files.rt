@@ -1,7 +1,9 @@
 //! Files that take their name when they are whole. A full disk, a refused growth or a stop in the middle of a
 //! write leaves what had the name before.
 
-ghost use Rattle.std.specs.Prelude.{◌≡◌, IfOk, None, Ok};
+ghost use Rattle.std.specs.Prelude.{◌≡◌, ◌⊎◌, Err, IfErr, IfOk, None, Ok};
+ghost use Rattle.procedure.specs.declared.streams.WriteError.TheVariants as write_refused;
+ghost use Rattle.calcdb.specs.declared.faults.failures.Failure.TheVariants as failure;
 
 use crate::digesting::Telling;
 use crate::faults::failures::{Failure, OutFile, RunFile};
@@ -251,7 +253,9 @@ impl<'a, A: Allocator> NewName<'a, A> {
         self,
         rt: &R,
         mut file: NewFile<F, A>,
-    ) -> Result<(), Failure<'a>> {
+    ) -> Result<(), Failure<'a>>
+        ensures { IfErr result (λ f. f ≡ failure.CannotWrite self.entry.name) }
+    {
         let NewName { name, renaming } = self;
         let is_out = file.flush().is_ok();
         let is_made = match renaming {
@@ -275,7 +279,8 @@ impl<'a, A: Allocator> NewName<'a, A> {
         file: NewFile<F, A>,
         written: Result<T, WriteError>,
     ) -> Result<T, Failure<'a>>
-        ensures { IfOk result (λ value. written ≡ Ok value) }
+        ensures ok { IfOk result (λ value. written ≡ Ok value) }
+        ensures err { IfErr result (λ f. (f ≡ failure.CannotWrite self.entry.name) ⊎ ((f ≡ failure.NoMemory) × (written ≡ Err write_refused.NoMemory))) }
     {
         match written {
             Ok(value) => {
