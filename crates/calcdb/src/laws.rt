@@ -33,9 +33,9 @@ pub(crate) fn recovery_law<A: Allocator>(core: &Core<A>)
     written_log_law();
 }
 
-/// What a file holds of a core's log that was written record by record is a front of the log, wherever it was
-/// cut off. So what `recovery_law` says of fronts holds of it: a chain of images whose last cut stands in it
-/// recovers, and so does the opening alone. Of what was written before, no record is lost.
+/// What a file holds of a core's log that was written record by record, and was cut off, is a front of the log,
+/// where its records fit version 2. So what `recovery_law` says of fronts holds of it: a chain of images whose
+/// last cut stands in it recovers, and so does the opening alone. Of what was written before, no record is lost.
 pub(crate) fn cut_off_law<A: Allocator>(core: &Core<A>)
     ensures { CutOffIsFront core.now }
 {

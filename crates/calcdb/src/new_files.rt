@@ -281,6 +281,7 @@ impl<'a, A: Allocator> NewName<'a, A> {
     ) -> Result<T, Failure<'a>>
         ensures ok { IfOk result (λ value. written ≡ Ok value) }
         ensures err { IfErr result (λ f. (f ≡ failure.CannotWrite self.entry.name) ⊎ ((f ≡ failure.NoMemory) × (written ≡ Err write_refused.NoMemory))) }
+        ensures memory { written ≡ Err write_refused.NoMemory → IfErr result (λ f. f ≡ failure.NoMemory) }
     {
         match written {
             Ok(value) => {

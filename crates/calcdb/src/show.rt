@@ -233,7 +233,7 @@ fn write_header_line<W: Write, A: Allocator, B: Allocator>(
     }
 }
 
-/// Writes an image among other lines, each of its own in place of what is in the buffer.
+/// Writes an image by way of a buffer that has one of its lines at a time. What was in it is lost.
 pub(crate) fn write_image_lines<W: Write, A: Allocator + Clone, B: Allocator>(
     writer: &mut W,
     line: &mut Vec<u8, A>,
