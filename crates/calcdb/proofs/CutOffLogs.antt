@@ -35,8 +35,8 @@ all_front P (x ∷ xs) ys a = (a.0, all_front P xs ys a.1)
 header_length : (h : LogHeader) → IsHeader h → length (log_header_bytes Two h) ≡ 72
 header_length h lengths = omega (arith, length-append (magic Two) (h.catalog ++ h.opening), length-append h.catalog h.opening, lengths.catalog, lengths.opening)
 
-pub cut_off_is_front : (core : CoreView) → length core.log ≤ LOG_RECORDS → CutOffIsFront core
-cut_off_is_front core few h text least header fits f =
+pub cut_off_is_front : (core : CoreView) → length core.log ≤ LOG_RECORDS → AllByRecursion (Fits Two) core.log → CutOffIsFront core
+cut_off_is_front core few fits h text least header f =
     let head = log_header_bytes Two h in
     let d = first_digest Two h in
     let written = log_bytes Two h f.front in

@@ -8,6 +8,7 @@ pub mod Decimals
 pub mod Declined
 pub mod Digested
 pub mod Endings
+pub mod FailedReads
 pub mod InstructionLines
 pub mod Keeping
 pub mod Lawful

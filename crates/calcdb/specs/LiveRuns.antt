@@ -3,8 +3,7 @@ use Rattle.std.specs.Prelude.{◌≡◌, ◌≤◌, ℕ, List, [], ◌∷◌, �
 use Rattle.procedure.specs.Bytes.{Bytes}
 use Rattle.procedure.specs.CatalogBytes.{catalog_bytes}
 use Rattle.sha2.specs.Sha256.{sha256}
-use Rattle.std.specs.List.{AllByRecursion}
-use Rattle.commitlog.specs.LogBytes.{Fits, log_bytes}
+use Rattle.commitlog.specs.LogBytes.{log_bytes}
 use Rattle.commitlog.specs.LogReadings.{IsHeader, IsReading, Log}
 use Rattle.commitlog.specs.LogWriters.{HasSent, Sent}
 use Rattle.commitlog.specs.Records.{Record}
@@ -63,5 +62,5 @@ pub record IsCutOff (old new : Option (List File)) (log : Option Sent) (t : Take
 -- what a file holds of a core's log that was cut off is a front of the log's bytes, and the records that stand whole in it are so many at least
 abbrev pub CutOffIsFront : CoreView → Type 0
 CutOffIsFront core =
-    (h : LogHeader) (text : Bytes) (least : ℕ) → IsHeader h → AllByRecursion (Fits Two) core.log → HasFront (Some text) h core.log least →
+    (h : LogHeader) (text : Bytes) (least : ℕ) → IsHeader h → HasFront (Some text) h core.log least →
     IsFrontOf Two h core.log text × ((m left : List Record) (e : Ending) → core.log ≡ m ++ left → IsReading text (Log Two h m e) → least ≤ length m)

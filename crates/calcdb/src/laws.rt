@@ -9,7 +9,7 @@ ghost use Rattle.steps.specs.declared.schedules.Handled.{Handled};
 ghost use Rattle.calcdb.specs.LiveRuns.{CutOffIsFront};
 ghost use Rattle.calcdb.specs.OwnFiles.{AreItsImages, AreRecovered, GivesTableNow, HasHistory};
 
-use commitlog::laws::written_log_law;
+use commitlog::laws::{records_fit_law, written_log_law};
 use replay::laws::{fronts_law, openings_law};
 use std::alloc::Allocator;
 use steps::Core;
@@ -33,12 +33,12 @@ pub(crate) fn recovery_law<A: Allocator>(core: &Core<A>)
     written_log_law();
 }
 
-/// What a file holds of a core's log that was written record by record, and was cut off, is a front of the log,
-/// where its records fit version 2. So what `recovery_law` says of fronts holds of it: a chain of images whose
+/// What a file holds of a core's log that was written record by record, and was cut off, is a front of the log.
+/// So what `recovery_law` says of fronts holds of it: a chain of images whose
 /// last cut stands in it recovers, and so does the opening alone. Of what was written before, no record is lost.
 pub(crate) fn cut_off_law<A: Allocator>(core: &Core<A>)
     ensures { CutOffIsFront core.now }
 {
-    // Brings in that the log has at most 1,000,000 records.
-    let _records = core.records();
+    // Of the log: it has at most 1,000,000 records, and each fits the format.
+    records_fit_law(core.records());
 }

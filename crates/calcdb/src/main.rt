@@ -41,6 +41,7 @@ mod run_folder;
 mod run_task;
 mod scripts;
 mod show;
+mod sinks;
 mod tasks;
 #[cfg(test)]
 mod tests;

@@ -1,6 +1,6 @@
 //! Texts of pairs, which are loaded as opening images.
 
-ghost use Rattle.std.specs.Prelude.{◌≡◌, ◌≤◌, IfErr, IfOk, Ok, Some};
+ghost use Rattle.std.specs.Prelude.{◌≡◌, ◌≢◌, ◌≤◌, IfErr, IfOk, Ok, Some};
 ghost use Rattle.std.specs.FinMap as map;
 ghost use Rattle.std.specs.Io.KnownBytes.{Appends};
 ghost use Rattle.procedure.specs.Bytes.{Bytes};
@@ -11,6 +11,7 @@ ghost use Rattle.calcdb.specs.Output.{header_line};
 ghost use Rattle.calcdb.specs.Pairs as spec;
 ghost use Rattle.calcdb.specs.Pairs.{EndsLoad, image_of_pairs};
 ghost use Rattle.calcdb.specs.Reads.{ReadsAs};
+ghost use Rattle.calcdb.specs.declared.faults.Fault.TheVariants as fault;
 
 use crate::faults::misreads::Misread;
 use crate::faults::refusals::{refuse, write_header};
@@ -137,6 +138,7 @@ fn load_text<W: Write, A: Allocator + Copy>(
 ) -> Result<Image<A>, Fault>
     ensures ok { IfOk result (λ i. (image_of_pairs text.now ≡ Ok i) × Appends (W.contents writer.old) (W.contents writer.new) (header_line i)) }
     ensures err { IfErr result (λ f. EndsLoad (image_of_pairs text.now) (W.contents writer.old) (W.contents writer.new) f) }
+    ensures unread { IfErr result (λ f. f ≢ fault.Read) }
 {
     let image = match read_image(alloc, text) {
         Ok(image) => image,

@@ -1,6 +1,6 @@
 //! The commands of a script, carried out on a core.
 
-ghost use Rattle.std.specs.Prelude.{◌≡◌, ◌≤◌, ◌+◌, ◌++◌, [], IfErr, IfOk, OnErr, OnOk, codes, drop, length, slice_get, vec_capacity, vec_len};
+ghost use Rattle.std.specs.Prelude.{◌≡◌, ◌≤◌, ◌++◌, [], IfErr, IfOk, OnErr, OnOk, codes, drop, length, slice_get};
 ghost use Rattle.std.specs.Io.KnownBytes.{Appends};
 ghost use Rattle.procedure.specs.Bytes.{Bytes};
 ghost use Rattle.phase.specs.Phases.{phase_text};
@@ -15,6 +15,7 @@ use crate::output::{
     phase_name, push_answer, push_image, push_key, push_numbered, push_refusal, push_text,
 };
 use crate::show::write_image_lines;
+use crate::sinks::Sink;
 use image::Image;
 use phase::Phase;
 use procedure::NoMemory;
@@ -214,13 +215,13 @@ fn print_line<A: Allocator + Clone>(line: &mut Vec<u8, A>, shown: &Shown<A>) -> 
     push_shown(line, shown)
 }
 
-/// Keeps the image that a command took, if it took one. There is room for it.
-fn keep_image<A: Allocator>(images: &mut Vec<Image<A>, A>, shown: Shown<A>)
-    requires { vec_len images.old + 1 ≤ vec_capacity images.old }
-    ensures { images.new.items ≡ images.old.items ++ images_shown shown }
+/// Hands on the image that a command took, if it took one.
+fn hand_on<P: Sink<Image<A>>, A: Allocator>(sink: &mut P, shown: Shown<A>)
+    requires { P.HasRoom sink.old }
+    ensures { (images : Images) → P.Has sink.old images → P.Has sink.new (images ++ images_shown shown) }
 {
     match shown {
-        Shown::Image(image) => images.push_reserved(image),
+        Shown::Image(image) => sink.take(image),
         _ => {}
     }
 }
@@ -272,23 +273,24 @@ fn keep<J: Journal<R, A>, R, A: Allocator>(
     journal.take(alloc, rt, &core.records()[noted..], image_of(shown))
 }
 
-/// Carries out a command, has the journal keep what it added, writes the line that is printed of it, and keeps
-/// the image that it took.
-fn answer<J: Journal<R, A>, R, W: Write, A: Allocator + Copy>(
+/// Carries out a command, has the journal keep what it added, writes the line that is printed of it, and hands
+/// on the image that it took.
+fn answer<P: Sink<Image<A>>, J: Journal<R, A>, R, W: Write, A: Allocator + Copy>(
     alloc: A,
     rt: &R,
     journal: &mut J,
     core: &mut Core<A>,
     writer: &mut W,
     line: &mut Vec<u8, A>,
-    images: &mut Vec<Image<A>, A>,
+    sink: &mut P,
     command: Command<Arguments<A>>,
 ) -> Result<(), Stop<J::Failure>>
-    requires { vec_len images.old + 1 ≤ vec_capacity images.old }
+    requires { P.HasRoom sink.old }
     ensures { (text : Bytes) × (taken : Images) × Carried {A = A} (Carries core.old.catalog command) core.old core.new text taken
-        × SentUnlessUnkept result (W.contents writer.old) (W.contents writer.new) text × OnOk result (images.new.items ≡ images.old.items ++ taken)
-        × ((start : J) → J.Has start journal.old (taken_of core.old images.old.items) →
-        IsKept result (J.Has start journal.new (taken_of core.new (images.old.items ++ taken))) (J.HasFront start journal.new (taken_of core.new (images.old.items ++ taken)) (length core.old.log))) }
+        × SentUnlessUnkept result (W.contents writer.old) (W.contents writer.new) text
+        × ((images : Images) → P.Has sink.old images → OnOk result (P.Has sink.new (images ++ taken)))
+        × ((start : J) (images : Images) → J.Has start journal.old (taken_of core.old images) →
+        IsKept result (J.Has start journal.new (taken_of core.new (images ++ taken))) (J.HasFront start journal.new (taken_of core.new (images ++ taken)) (length core.old.log))) }
 {
     let noted = core.records().len();
     let shown = carry_out(core, command);
@@ -300,41 +302,43 @@ fn answer<J: Journal<R, A>, R, W: Write, A: Allocator + Copy>(
         Ok(()) => {}
         Err(fault) => return Err(Stop::Fault(fault)),
     }
-    keep_image(images, shown);
+    hand_on(sink, shown);
     Ok(())
 }
 
-/// Carries out the commands, each after the line of the one before was written, and returns the images
-/// that they took, in order.
-pub(crate) fn run_commands<J: Journal<R, A>, R, W: Write, A: Allocator + Copy>(
+/// Carries out the commands, each after the line of the one before was written, and returns what was given the
+/// images that they took.
+pub(crate) fn run_commands<
+    P: Sink<Image<A>> + Drop,
+    J: Journal<R, A>,
+    R,
+    W: Write,
+    A: Allocator + Copy,
+>(
     alloc: A,
     rt: &R,
     journal: &mut J,
     core: &mut Core<A>,
     writer: &mut W,
+    sink: P,
     commands: Vec<Command<Arguments<A>>, A>,
-) -> Result<Vec<Image<A>, A>, Stop<J::Failure>>
-    ensures ok { IfOk result (λ images. (text : Bytes) × Carried {A = A} (CarriesAll core.old.catalog commands.items) core.old core.new text images.items × Appends (W.contents writer.old) (W.contents writer.new) text) }
-    ensures kept { (start : J) → J.Has start journal.old (taken_of core.old []) → IfOk result (λ images. J.Has start journal.new (taken_of core.new images.items)) }
+) -> Result<P, Stop<J::Failure>>
+    requires { P.Has sink [] }
+    ensures ok { IfOk result (λ kept. (text : Bytes) × (images : Images) × P.Has kept images × Carried {A = A} (CarriesAll core.old.catalog commands.items) core.old core.new text images
+        × Appends (W.contents writer.old) (W.contents writer.new) text
+        × ((start : J) → J.Has start journal.old (taken_of core.old []) → J.Has start journal.new (taken_of core.new images))) }
     ensures err { (start : J) → J.Has start journal.old (taken_of core.old []) → IfErr result (StopsIn A core.old.catalog commands.items core.old core.new (W.contents writer.old) (W.contents writer.new) (J.Has start journal.new) (J.HasFront start journal.new)) }
 {
     let mut line = Vec::new(alloc);
-    let mut images = Vec::new(alloc);
+    let mut sink = sink;
     for command in commands {
         // Room for the image that the command may take.
-        if images.reserve(1).is_err() {
+        if sink.make_room().is_err() {
             return Err(Stop::Fault(Fault::NoMemory));
         }
         answer(
-            alloc,
-            rt,
-            journal,
-            core,
-            writer,
-            &mut line,
-            &mut images,
-            command,
+            alloc, rt, journal, core, writer, &mut line, &mut sink, command,
         )?;
     }
-    Ok(images)
+    Ok(sink)
 }

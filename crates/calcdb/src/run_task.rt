@@ -1,7 +1,7 @@
 //! What the program does for `run`.
 
 use crate::command_line::RunFiles;
-use crate::engine::{Ran, run_kept, run_script};
+use crate::engine::{RanKept, run_kept, run_script};
 use crate::faults::failures::Failure;
 use crate::faults::refusals::write_fault;
 use crate::faults::subjects::Subject;
@@ -13,6 +13,7 @@ use crate::new_files::NewFolder;
 use crate::other_images::{OtherImages, other_images};
 use crate::progress::{CountedBytes, CountedLines, CountedSteps, Progress};
 use crate::run_folder::write_run;
+use crate::sinks::Discard;
 use crate::threads::run_threads;
 use image::{Image, Kind, ReadError, ReadFromError, read_from};
 use std::alloc::Allocator;
@@ -73,7 +74,7 @@ fn fill_folder<'a, R: Files + Alloc, A: Allocator + Copy>(
     alloc: A,
     rt: &R,
     mut folder: NewFolder<'a, A>,
-    ran: &Ran<A>,
+    ran: &RanKept<A>,
 ) -> Result<Option<OtherImages<'a>>, Failure<'a>>
 where
     R::File: Drop,
@@ -87,7 +88,7 @@ fn leave_run<'a, R: Files + Alloc, O: Write, A: Allocator + Copy>(
     alloc: A,
     rt: &R,
     folder: Option<&'a str>,
-    ran: &Ran<A>,
+    ran: &RanKept<A>,
     out: &mut O,
 ) -> Result<Option<OtherImages<'a>>, Failure<'a>>
 where
@@ -108,7 +109,7 @@ fn refused_by<'a>(fault: &Fault, files: RunFiles<'a>) -> &'a str {
     }
 }
 
-/// Runs the script that a reader gives, in threads where there are some.
+/// Runs the script that a reader gives, in threads where there are some, and keeps its images.
 fn run_reader<
     T: Threads + Wait + Sync,
     I: Read,
@@ -122,7 +123,7 @@ fn run_reader<
     opening: Image<A>,
     progress: Option<&P>,
     out: &mut O,
-) -> Result<Ran<A>, Fault> {
+) -> Result<RanKept<A>, Fault> {
     match threads {
         Some(threads) => {
             let gate = CountedSteps::new(progress);
@@ -130,7 +131,7 @@ fn run_reader<
         }
         None => {
             let mut lines = CountedLines::new(out, progress);
-            run_script(alloc, script, &mut lines, opening)
+            run_script(alloc, script, &mut lines, Vec::new(alloc), opening)
         }
     }
 }
@@ -139,6 +140,26 @@ fn run_reader<
 fn failure_of<'a>(fault: Fault, files: RunFiles<'a>) -> Failure<'a> {
     let subject = Subject::File(refused_by(&fault, files));
     Failure::of_fault(fault, files.script, subject)
+}
+
+/// Runs the script that a reader gives, and keeps none of its images.
+fn run_alone<'a, I: Read, O: Write, P: Progress, A: Allocator + Copy>(
+    alloc: A,
+    files: RunFiles<'a>,
+    script: &mut I,
+    opening: Image<A>,
+    progress: Option<&P>,
+    out: &mut O,
+) -> Result<(), Failure<'a>> {
+    let mut lines = CountedLines::new(&mut *out, progress);
+    match run_script(alloc, script, &mut lines, Discard, opening) {
+        Ok(ran) => {
+            // As in `run_and_leave`.
+            mem::forget(ran);
+            flush(out, Failure::CannotPrint)
+        }
+        Err(fault) => Err(failure_of(fault, files)),
+    }
 }
 
 /// Runs the script that a reader gives, and keeps its folder up while it goes on.
@@ -157,7 +178,7 @@ where
 {
     let mut live = LiveRun::new(NewFolder { alloc, path }, files.sync);
     let mut lines = CountedLines::new(&mut *out, progress);
-    match run_kept(alloc, rt, &mut live, script, &mut lines, opening) {
+    match run_kept(alloc, rt, &mut live, script, &mut lines, Discard, opening) {
         Ok(ran) => {
             // As in `run_and_leave`.
             mem::forget(ran);
@@ -232,6 +253,10 @@ where
     match files.folder {
         Some(path) if files.live => {
             run_live(alloc, rt, path, files, &mut script, opening, progress, out)?;
+            Ok(None)
+        }
+        None if !files.threads => {
+            run_alone(alloc, files, &mut script, opening, progress, out)?;
             Ok(None)
         }
         _ => run_and_leave(

@@ -1,6 +1,6 @@
 //! A run of a script in threads, from its reader to its writer.
 
-ghost use Rattle.std.specs.Prelude.{◌≡◌, ◌⊎◌, ◌++◌, ◌∷◌, [], ◌+◌, Err, IfErr, IfOk, List, Ok, OnOk, Some, length, true};
+ghost use Rattle.std.specs.Prelude.{◌≡◌, ◌≢◌, ◌⊎◌, ◌++◌, ◌∷◌, [], ◌+◌, Err, IfErr, IfOk, List, Ok, OnOk, Some, length, true};
 ghost use Rattle.std.specs.Io.KnownBytes.{Appends};
 ghost use mathlib.Core.List.{IsPrefix};
 ghost use Rattle.image.specs.Openings.{is_opening};
@@ -17,7 +17,7 @@ ghost use Rattle.calcdb.specs.declared.faults.Fault.TheVariants as fault;
 ghost use Rattle.calcdb.specs.declared.faults.Reason.TheVariants as reason;
 
 use crate::core_audits::audit_core;
-use crate::engine::{Ran, refuse_script};
+use crate::engine::{Ran, RanKept, refuse_script};
 use crate::faults::refusals::write_fault;
 use crate::faults::{Fault, Reason};
 use crate::looking::{Reader, learn, look, look_beside};
@@ -43,7 +43,7 @@ use workers::{Gate, NotRun, Origin, Report, run_all};
 fn write_ran<W: Write, A: Allocator + Copy>(
     alloc: A,
     writer: &mut W,
-    ran: &Ran<A>,
+    ran: &RanKept<A>,
     count: usize,
 ) -> Result<(), Fault>
     ensures { Sent result (W.contents writer.old) (W.contents writer.new) (run_text count (call_count ran.now.core.log) (length ran.now.images.items) (Ok tt)) }
@@ -168,7 +168,7 @@ fn run_to_end<
 fn write_ended<J: Naming, W: Write, A: Allocator + Copy>(
     alloc: A,
     writer: &mut W,
-    ran: &Ran<A>,
+    ran: &RanKept<A>,
     reader: Reader<J, A>,
     keys: &[Key],
     count: usize,
@@ -196,7 +196,7 @@ fn finish_run<J: Naming + Origin, Q: Wait + Drop, W: Write, A: Allocator + Copy>
     reader: Reader<J, A>,
     keys: Vec<Key, A>,
     count: usize,
-) -> Result<Ran<A>, Fault>
+) -> Result<RanKept<A>, Fault>
     ensures ok { IfOk result (λ r. (text : Bytes) × RunsInThreads count keys.items r.core r.images.items text × Appends (W.contents writer.old) (W.contents writer.new) text) }
     ensures origin { IfOk result (λ r. IsFrom J.catalog J.opening r.core) }
     ensures err { IfErr result (StopsInThreads count keys.items (W.contents writer.old) (W.contents writer.new)) }
@@ -235,7 +235,7 @@ fn run_plan<
     publisher: Publisher<J, &'a T, A>,
     reader: Reader<J, A>,
     gate: &G,
-) -> Result<Ran<A>, Fault>
+) -> Result<RanKept<A>, Fault>
     ensures ok { IfOk result (λ r. (text : Bytes) × RunsInThreads plan.count plan.keys.items r.core r.images.items text × Appends (W.contents writer.old) (W.contents writer.new) text) }
     ensures origin { IfOk result (λ r. IsFrom J.catalog J.opening r.core) }
     ensures err { IfErr result (StopsInThreads plan.count plan.keys.items (W.contents writer.old) (W.contents writer.new)) }
@@ -282,7 +282,7 @@ fn run_in_view<
     plan: Plan<A>,
     opened: Opened<A>,
     gate: &G,
-) -> Result<Ran<A>, Fault>
+) -> Result<RanKept<A>, Fault>
     requires name { name_of opened ≡ J.book }
     requires origin { IsFrom J.catalog J.opening core }
     ensures ok { IfOk result (λ r. (text : Bytes) × RunsInThreads plan.count plan.keys.items r.core r.images.items text × Appends (W.contents writer.old) (W.contents writer.new) text) }
@@ -326,7 +326,7 @@ fn run_opened<
     script: ThreadScript<A>,
     opening: Image<A>,
     gate: &G,
-) -> Result<Ran<A>, Fault>
+) -> Result<RanKept<A>, Fault>
     requires { is_opening opening ≡ true }
     ensures ok { IfOk result (λ r. (text : Bytes) × RunsInThreads (length (call_commands script.commands)) (keys_of script.commands) r.core r.images.items text × Appends (W.contents writer.old) (W.contents writer.new) text) }
     ensures origin { IfOk result (λ r. IsFrom script.catalog opening r.core) }
@@ -361,10 +361,11 @@ fn run_text<W: Write, T: Threads + Wait + Sync, A: Allocator + Copy + Send + Syn
     text: Vec<u8, A>,
     opening: Image<A>,
     gate: &G,
-) -> Result<Ran<A>, Fault>
+) -> Result<RanKept<A>, Fault>
     requires { is_opening opening ≡ true }
     ensures run { IfOk result (λ r. (out : Bytes) × RunsToEnd (thread_script_of text.items) opening r.core r.images.items out × Appends (W.contents writer.old) (W.contents writer.new) out) }
     ensures fault { IfErr result (EndsInThreads (thread_script_of text.items) opening (W.contents writer.old) (W.contents writer.new)) }
+    ensures unread { IfErr result (λ f. f ≢ fault.Read) }
 {
     let read = read_thread_script(alloc, text.as_slice());
     // Its memory isn't needed while the script is carried out.
@@ -394,7 +395,7 @@ pub(crate) fn run_threads<
     writer: &mut W,
     opening: Image<A>,
     gate: &G,
-) -> Result<Ran<A>, Fault>
+) -> Result<RanKept<A>, Fault>
     // Where the reader tells its bytes: the core has the script's procedures and the opening, each image is that
     // of its checkpoint in its log, the log passes its audit, and the lines of all that were written.
     ensures run { IfOk result (λ r. (source : Bytes) → R.remaining reader.old ≡ Some source → (text : Bytes) × RunsToEnd (thread_script_of source) opening r.core r.images.items text × Appends (W.contents writer.old) (W.contents writer.new) text) }

@@ -1,9 +1,16 @@
-//! Laws of histories, each the contract of a function that does nothing.
+//! Laws of histories, each the contract of a function that does nothing, or only looks.
 
 ghost use Rattle.std.specs.Prelude.{◌≡◌};
+ghost use Rattle.std.specs.List.{AllByRecursion};
 ghost use Rattle.commitlog.specs.Laws.{FrontsAreHistories, GrowByOne, KeepsCuts, KeepsImages, LastIsGreatest, NumbersRise, SayByOne, WrittenJoins};
+ghost use Rattle.commitlog.specs.LogBytes.{Fits};
 ghost use Rattle.commitlog.specs.LogReadings.{IsReadAgain, OneReading};
 ghost use Rattle.commitlog.specs.declared.limits.TheConstants.{BODY_BYTES, BODY_BYTES_V1, HEADER_BYTES, LOG_RECORDS, REPLIES, VALUE_BYTES_V1};
+ghost use Rattle.commitlog.specs.declared.formats.Version.TheVariants.{Two};
+
+use crate::encoding::longest_body;
+use crate::records::Record;
+use std::alloc::Allocator;
 
 /// A longer log keeps the cut of every checkpoint that it had, the table there, the checkpoint
 /// finished before, and the keys written before it.
@@ -52,6 +59,13 @@ pub fn finished_law()
 pub fn reading_law()
     ensures { OneReading }
 {}
+
+/// Every record fits version 2, whatever writes it. It looks at each.
+pub fn records_fit_law<A: Allocator>(records: &[Record<A>])
+    ensures { AllByRecursion (Fits Two) records.now }
+{
+    let _longest = longest_body(records);
+}
 
 /// What is written is read again.
 pub fn written_log_law()

@@ -3,6 +3,7 @@
 use crate::engine::run_kept;
 use crate::faults::failures::{Failure, OutFile, RunFile};
 use crate::live_runs::{LiveFolder, LiveLog, LiveRun};
+use crate::sinks::Discard;
 use crate::tests::console::check_rows;
 use crate::tests::devices::{PLENTY, Sink, Source};
 use crate::tests::fixtures::{log_of_core, opening_of, run_over, script_of};
@@ -140,7 +141,15 @@ fn run_in_folder<A: Allocator + Copy>(
     folder.taken = taken;
     let mut live = LiveRun::new(folder, true);
     let opening = opening_of(alloc, pairs)?;
-    let has_ended = match run_kept(alloc, &(), &mut live, &mut source, &mut sink, opening) {
+    let has_ended = match run_kept(
+        alloc,
+        &(),
+        &mut live,
+        &mut source,
+        &mut sink,
+        Discard,
+        opening,
+    ) {
         Ok(ran) => {
             drop(ran);
             true

@@ -133,7 +133,7 @@ fn starved_after<A: Allocator + Copy>(
         heap,
         left,
     };
-    let fault = run_script(alloc, &mut source, &mut sink, opening).err();
+    let fault = run_script(alloc, &mut source, &mut sink, Vec::new(alloc), opening).err();
     Ok((sink.kept, fault))
 }
 

@@ -19,9 +19,14 @@ returns-then-not-is_opening-clause-fault g c = λ source known.
 pub returns-clause-run : goal.returns-clause-run
 returns-clause-run g c =
     IfOk-weaker c.run_text.result _ _
-    (λ r h source known.
-    let same = same_reading schedule_of (long_scripts command_of) (g.I.Read.remaining c.args.reader.now) (g.I.Read.remaining c.read_past.new.reader) source c.in-Ok.text.items known c.in-Ok.ensures.read c.in-Ok.ensures.end in
-    (h.0, subst (λ says. RunsTo g.row.A.Denot says c.args.opening r.core h.0 r.images.items) (sym same) h.1, h.2))
+    (λ r h. (
+      h.1,
+      h.2,
+      h.5,
+      λ source known.
+          let same = same_reading schedule_of (long_scripts command_of) (g.I.Read.remaining c.args.reader.now) (g.I.Read.remaining c.read_past.new.reader) source c.in-Ok.text.items known c.in-Ok.ensures.read c.in-Ok.ensures.end in
+          (h.0, subst (λ says. RunsTo g.row.A.Denot says c.args.opening r.core h.0 h.1) (sym same) h.3, h.4),
+    ))
     c.run_text.ensures.run
 
 pub returns-clause-fault : goal.returns-clause-fault

@@ -4,7 +4,7 @@ use Rattle.std.specs.Io.KnownBytes.{Appends}
 use Rattle.procedure.specs.Bytes.{Bytes}
 use Rattle.steps.specs.CoreViews.{CoreView}
 use Rattle.steps.specs.Openings.{IsOpened}
-use Rattle.calcdb.specs.Journals.{IsUnopened, StopsKept}
+use Rattle.calcdb.specs.Journals.{IsUnopened, StopsKept, taken_of}
 use Rattle.calcdb.specs.Runs.{Carried, CarriesAll, Images}
 use Rattle.calcdb.specs.Scripts.{Schedule}
 use Rattle.calcdb.proofs.Endings.{carried_script}
@@ -15,12 +15,14 @@ pub returns-in-Ok-clause-ok : goal.returns-in-Ok-clause-ok
 returns-in-Ok-clause-ok g c =
     let s : Schedule = record { catalog = c.script.inside.catalog; commands = c.script.inside.commands } in
     let core = c.in-Ok.core in
+    let start = c.args.journal.now in
+    let journal = c.run_begun.new.journal in
     IfOk-weaker c.run_begun.result _ _
     (λ r h.
-    let images : Images = r.images.items in
-    subst (λ (x : Schedule). (first : CoreView) × (text : Bytes) × IsOpened x.catalog c.args.opening first × Carried {A = g.row.A.Denot} (CarriesAll x.catalog x.commands) first r.core text images ×
-    Appends (g.W.Write.contents c.args.writer.now) (g.W.Write.contents c.run_begun.new.writer) text) c.script.view_is
-    (core, h.0, c.in-Ok.ensures.opened, carried_script s c.args.opening core r.core c.into_vec.result.items h.0 images c.in-Ok.ensures.opened c.into_vec.ensures h.1, h.2))
+    let images : Images = h.1 in
+    subst (λ (x : Schedule). (first : CoreView) × (text : Bytes) × (images : Images) × IsOpened x.catalog c.args.opening first × g.P.Sink.Has r.images images × Carried {A = g.row.A.Denot} (CarriesAll x.catalog x.commands) first r.core text images ×
+    Appends (g.W.Write.contents c.args.writer.now) (g.W.Write.contents c.run_begun.new.writer) text × g.J.Journal.Has start journal (taken_of r.core images)) c.script.view_is
+    (core, h.0, images, c.in-Ok.ensures.opened, h.2, carried_script s c.args.opening core r.core c.into_vec.result.items h.0 images c.in-Ok.ensures.opened c.into_vec.ensures h.3, h.4, h.5))
     c.run_begun.ensures.ok
 
 pub returns-in-Ok-clause-err : goal.returns-in-Ok-clause-err

@@ -1,11 +1,13 @@
-use Rattle.std.proofs.Common.{◌≡◌, refl, subst, sym}
+use Rattle.std.proofs.Common.{◌≡◌, ◌≢◌, refl, subst, sym}
 use Rattle.procedure.specs.Bytes.{Bytes}
 use Rattle.calcdb.proofs.Declined.{declined, fails_wider}
+use Rattle.calcdb.proofs.FailedReads.{in_header, in_line, text_not_read}
 use Rattle.calcdb.specs.Outcomes.{HasLine}
 use Rattle.calcdb.specs.Output.{header_line}
 use Rattle.calcdb.specs.Pairs.{IsLoadFault, IsLoadHeader, image_of_pairs}
 use Rattle.calcdb.specs.Refusing.{no_memory, text_fault}
 use Rattle.calcdb.proofs.Loading.{load_fault, text_has_line}
+use Rattle.calcdb.specs.declared.faults.Fault.TheVariants as fault
 use Rattle.calcdb.proofs.pairs.load_text.Goals as goal
 
 pub returns-in-Err-write_header-clause-err : goal.returns-in-Err-write_header-clause-err
@@ -21,3 +23,13 @@ returns-in-Err-clause-err g c =
     let is : c.from.result ≡ text_fault c.in-Err.fault = c.from.ensures in
     declined (IsLoadFault says) (IsLoadHeader says) (g.W.Write.contents c.args.writer.now) (g.W.Write.contents c.refuse.new.writer) c.from.result c.refuse.result
     (subst HasLine (sym is) (text_has_line c.in-Err.fault)) (subst (IsLoadFault says) (sym is) (load_fault says c.in-Err.fault c.in-Err.ensures)) refl c.refuse.ensures
+
+pub returns-in-Err-write_header-clause-unread : goal.returns-in-Err-write_header-clause-unread
+returns-in-Err-write_header-clause-unread g c =
+    in_header (g.W.Write.contents c.args.writer.now) (g.W.Write.contents c.write_header.new.writer) c.in-Err-write_header.fault (header_line c.in-Ok.image) c.in-Err-write_header.ensures.err
+
+pub returns-in-Err-clause-unread : goal.returns-in-Err-clause-unread
+returns-in-Err-clause-unread g c =
+    let is : c.from.result ≡ text_fault c.in-Err.fault = c.from.ensures in
+    in_line (g.W.Write.contents c.args.writer.now) (g.W.Write.contents c.refuse.new.writer) c.from.result c.refuse.result
+    (subst (λ f. f ≢ fault.Read) (sym is) (text_not_read c.in-Err.fault)) c.refuse.ensures

@@ -20,14 +20,14 @@ returns-in-Err g c =
     let new = c.carry_out-shown.new.core in
     let text : Bytes = shown_text c.carry_out-shown.result in
     let taken : Images = images_shown c.carry_out-shown.result in
-    let on = carried_on (Carries old.catalog c.args.command) old new text taken c.carry_out-shown.ensures in
-    let all = all_taken old new c.records-noted.result.now c.args.images.now.items taken c.records-noted.ensures.value on in (
+    let on = carried_on (Carries old.catalog c.args.command) old new text taken c.carry_out-shown.ensures in (
       text,
       taken,
       c.carry_out-shown.ensures,
       Appends-nil (g.W.Write.contents c.args.writer.now),
-      tt,
-      λ start has. subst (λ (t : Taken). g.J.Journal.HasFront start c.keep.new.journal t (length old.log)) all (c.in-Err.ensures.err start _ has),
+      λ images has. tt,
+      λ start images has.
+          subst (λ (t : Taken). g.J.Journal.HasFront start c.keep.new.journal t (length old.log)) (all_taken old new c.records-noted.result.now images taken c.records-noted.ensures.value on) (c.in-Err.ensures.err start _ has),
     )
 
 pub returns-in-Err-write_shown : goal.returns-in-Err-write_shown
@@ -36,14 +36,14 @@ returns-in-Err-write_shown g c =
     let new = c.carry_out-shown.new.core in
     let text : Bytes = shown_text c.carry_out-shown.result in
     let taken : Images = images_shown c.carry_out-shown.result in
-    let on = carried_on (Carries old.catalog c.args.command) old new text taken c.carry_out-shown.ensures in
-    let all = all_taken old new c.records-noted.result.now c.args.images.now.items taken c.records-noted.ensures.value on in (
+    let on = carried_on (Carries old.catalog c.args.command) old new text taken c.carry_out-shown.ensures in (
       text,
       taken,
       c.carry_out-shown.ensures,
       c.in-Err-write_shown.ensures,
-      tt,
-      λ start has. subst (λ (t : Taken). g.J.Journal.Has start c.keep.new.journal t) all (c.in-Ok.ensures.ok start _ has),
+      λ images has. tt,
+      λ start images has.
+          subst (λ (t : Taken). g.J.Journal.Has start c.keep.new.journal t) (all_taken old new c.records-noted.result.now images taken c.records-noted.ensures.value on) (c.in-Ok.ensures.ok start _ has),
     )
 
 pub returns : goal.returns
@@ -52,12 +52,12 @@ returns g c =
     let new = c.carry_out-shown.new.core in
     let text : Bytes = shown_text c.carry_out-shown.result in
     let taken : Images = images_shown c.carry_out-shown.result in
-    let on = carried_on (Carries old.catalog c.args.command) old new text taken c.carry_out-shown.ensures in
-    let all = all_taken old new c.records-noted.result.now c.args.images.now.items taken c.records-noted.ensures.value on in (
+    let on = carried_on (Carries old.catalog c.args.command) old new text taken c.carry_out-shown.ensures in (
       text,
       taken,
       c.carry_out-shown.ensures,
       c.in-Ok-write_shown.ensures,
-      c.keep_image.ensures,
-      λ start has. subst (λ (t : Taken). g.J.Journal.Has start c.keep.new.journal t) all (c.in-Ok.ensures.ok start _ has),
+      λ images has. c.hand_on.ensures images has,
+      λ start images has.
+          subst (λ (t : Taken). g.J.Journal.Has start c.keep.new.journal t) (all_taken old new c.records-noted.result.now images taken c.records-noted.ensures.value on) (c.in-Ok.ensures.ok start _ has),
     )

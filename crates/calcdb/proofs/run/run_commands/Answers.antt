@@ -1,11 +1,10 @@
-use Rattle.std.proofs.Common.{◌≡◌, List, [], ◌∷◌, ◌++◌, length, arith, sym, ap, subst, ◌∙◌, append_assoc}
+use Rattle.std.proofs.Common.{◌≡◌, List, [], ◌∷◌, ◌++◌, arith, sym, ap, subst, ◌∙◌, append_assoc}
 use Rattle.std.specs.Vec.Iter.{into_iter_items}
 use Rattle.std.proofs.KnownBytes.{Appends-trans}
 use Rattle.std.proofs.lemmas.List.{append-nil, nil_from_length}
 use Rattle.std.proofs.lemmas.Result.{err_from_is_err_and}
 use Rattle.procedure.specs.Bytes.{Bytes}
-use Rattle.calcdb.specs.Journals.{IsKept, taken_of}
-use Rattle.calcdb.specs.Runs.{Carried, Carries, CarriesAll, Images}
+use Rattle.calcdb.specs.Runs.{Carried, Carries, CarriesAll}
 use Rattle.calcdb.specs.declared.commands.Command.{Command}
 use Rattle.calcdb.proofs.CarryingOn.{carried_more, carried_on, length-of-cons}
 use Rattle.calcdb.proofs.Keeping.{stops_at}
@@ -15,7 +14,7 @@ pub returns-then-is_err-clause-err : goal.returns-then-is_err-clause-err
 returns-then-is_err-clause-err g c = λ start has.
     let i = c.loop-command.invariant in (
       i.text,
-      record { front = i.front; left = into_iter_items c.loop-command.command-iterator; parts = i.parts; images = c.loop-command.images.items; carried = i.carried },
+      record { front = i.front; left = into_iter_items c.loop-command.command-iterator; parts = i.parts; images = i.images; carried = i.carried },
       (i.text, [], sym (append-nil i.text), i.sent),
       i.kept start has,
     )
@@ -32,20 +31,17 @@ loop-command-preserved g c =
     let left = into_iter_items c.next.new.self in
     let more = length-of-cons (into_iter_items c.loop-command.command-iterator) d left h.0 in
     let this = subst (λ k. Carried {A = g.row.A.Denot} (Carries k d) core new a.0 a.1) i.catalog a.2 in
-    let images : Images = c.loop-command.images.items in
-    let kept : images ++ a.1 ≡ c.answer.new.images.items = sym (a.4 ∙ ap (λ (l : Images). l ++ a.1) c.reserve.ensures.items) in
     record {
       front = i.front ++ d ∷ [];
       text = i.text ++ a.0;
+      images = i.images ++ a.1;
+      has = a.4 i.images (c.make_room.ensures.same i.images i.has);
       parts = i.parts ∙ ap (λ (l : List (Command (List Bytes))). i.front ++ l) h.0 ∙ sym (append_assoc i.front (d ∷ []) left);
-      carried = subst (λ l. Carried {A = g.row.A.Denot} (CarriesAll first.catalog (i.front ++ d ∷ [])) first new (i.text ++ a.0) l) kept
-          (carried_more first.catalog i.front d first core new i.text a.0 images a.1 i.carried this);
+      carried = carried_more first.catalog i.front d first core new i.text a.0 i.images a.1 i.carried this;
       sent = Appends-trans (g.W.Write.contents c.args.writer.now) (g.W.Write.contents c.loop-command.writer) (g.W.Write.contents c.answer.new.writer) i.text a.0 i.sent a.3;
       catalog = (carried_on (Carries core.catalog d) core new a.0 a.1 a.2).catalog ∙ i.catalog;
       count = omega (arith, i.count, h.1, more);
-      kept = λ start has.
-          subst (λ (l : Images). g.J.Journal.Has start c.answer.new.journal (taken_of new l)) (sym a.4)
-          (a.5 start (subst (λ (l : Images). g.J.Journal.Has start c.loop-command.journal (taken_of core l)) (sym c.reserve.ensures.items) (i.kept start has)));
+      kept = λ start has. a.5 start i.images (i.kept start has);
     }
 
 pub returns-in_err-answer-clause-err : goal.returns-in_err-answer-clause-err
@@ -58,25 +54,24 @@ returns-in_err-answer-clause-err g c = λ start has.
     let core = c.loop-command.core in
     let new = c.answer.new.core in
     let left = into_iter_items c.next.new.self in
-    let images : Images = c.loop-command.images.items in
     let this = subst (λ k. Carried {A = g.row.A.Denot} (Carries k d) core new a.0 a.1) i.catalog a.2 in
     let p = err_from_is_err_and c.from_residual.result c.from_residual.ensures.1 in
     let s = c.in_err-answer.field-0.0 in
-    let kept = subst (λ (l : Images). IsKept {F = g.row.J-Failure.Denot} (Rattle.std.proofs.Common.Err s) (g.J.Journal.Has start c.answer.new.journal (taken_of new (l ++ a.1))) (g.J.Journal.HasFront start c.answer.new.journal (taken_of new (l ++ a.1)) (length core.log))) c.reserve.ensures.items
-    (a.5 start (subst (λ (l : Images). g.J.Journal.Has start c.loop-command.journal (taken_of core l)) (sym c.reserve.ensures.items) (i.kept start has))) in
     let parts = i.parts ∙ ap (λ (l : List (Command (List Bytes))). i.front ++ l) h.0 in
     rw (p.1, p.2)
-    (stops_at g.row.A.Denot g.row.J-Failure.Denot first.catalog c.args.commands.items i.front d left first core new i.text a.0 images a.1
+    (stops_at g.row.A.Denot g.row.J-Failure.Denot first.catalog c.args.commands.items i.front d left first core new i.text a.0 i.images a.1
     (g.W.Write.contents c.args.writer.now) (g.W.Write.contents c.loop-command.writer) (g.W.Write.contents c.answer.new.writer) (g.J.Journal.Has start c.answer.new.journal)
-    (g.J.Journal.HasFront start c.answer.new.journal) s parts i.carried this i.sent a.3 kept)
+    (g.J.Journal.HasFront start c.answer.new.journal) s parts i.carried this i.sent a.3 (a.5 start i.images (i.kept start has)))
 
 pub returns-clause-ok : goal.returns-clause-ok
 returns-clause-ok g c =
     let i = c.loop-command.invariant in
-    let images : Images = c.loop-command.images.items in
     let left : into_iter_items c.loop-command.command-iterator ≡ [] = nil_from_length (into_iter_items c.loop-command.command-iterator) (sym i.count ∙ c.in-None.ensures.steps.0) in
     let all : c.args.commands.items ≡ i.front = i.parts ∙ ap (λ (l : List (Command (List Bytes))). i.front ++ l) left ∙ append-nil i.front in (
       i.text,
-      subst (λ (l : List (Command (List Bytes))). Carried {A = g.row.A.Denot} (CarriesAll c.args.core.now.catalog l) c.args.core.now c.loop-command.core i.text images) (sym all) i.carried,
+      i.images,
+      i.has,
+      subst (λ (l : List (Command (List Bytes))). Carried {A = g.row.A.Denot} (CarriesAll c.args.core.now.catalog l) c.args.core.now c.loop-command.core i.text i.images) (sym all) i.carried,
       i.sent,
+      i.kept,
     )

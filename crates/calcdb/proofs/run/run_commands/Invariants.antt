@@ -3,7 +3,7 @@ use Rattle.std.specs.Vec.Iter.{into_iter_items, into_iter_len}
 use Rattle.std.specs.Io.KnownBytes.{Appends}
 use Rattle.procedure.specs.Bytes.{Bytes}
 use Rattle.calcdb.specs.Journals.{taken_of}
-use Rattle.calcdb.specs.Runs.{Carried, CarriesAll}
+use Rattle.calcdb.specs.Runs.{Carried, CarriesAll, Images}
 use Rattle.calcdb.specs.declared.commands.Command.{Command}
 use Rattle.calcdb.proofs.run.run_commands.Given as goal
 
@@ -12,10 +12,12 @@ abbrev pub invariant-loop-command : goal.invariant-loop-command
 invariant-loop-command g l = record {
   front : List (Command (List Bytes));
   text : Bytes;
+  images : Images;
+  has : g.P.Sink.Has l.sink images;
   parts : l.fn.commands.items ≡ front ++ into_iter_items l.command-iterator;
-  carried : Carried {A = g.row.A.Denot} (CarriesAll l.initial.core.catalog front) l.initial.core l.core text l.images.items;
+  carried : Carried {A = g.row.A.Denot} (CarriesAll l.initial.core.catalog front) l.initial.core l.core text images;
   sent : Appends (g.W.Write.contents l.initial.writer) (g.W.Write.contents l.writer) text;
   catalog : l.core.catalog ≡ l.initial.core.catalog;
   count : into_iter_len l.command-iterator ≡ length (into_iter_items l.command-iterator);
-  kept : (start : g.row.J.Denot) → g.J.Journal.Has start l.initial.journal (taken_of l.initial.core []) → g.J.Journal.Has start l.journal (taken_of l.core l.images.items);
+  kept : (start : g.row.J.Denot) → g.J.Journal.Has start l.initial.journal (taken_of l.initial.core []) → g.J.Journal.Has start l.journal (taken_of l.core images);
 }

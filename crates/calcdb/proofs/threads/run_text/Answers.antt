@@ -1,6 +1,7 @@
 use Rattle.std.proofs.lemmas.Result.{IfErr-weaker}
 use Rattle.calcdb.specs.ThreadOutcomes.{EndsInThreads}
 use Rattle.calcdb.specs.Scripts.{thread_script_of}
+use Rattle.calcdb.proofs.FailedReads.{in_threads, refusing_script}
 use Rattle.calcdb.proofs.ThreadEnds.{ok_with}
 use Rattle.calcdb.proofs.ThreadEndings.{ends_run, ends_script}
 use Rattle.calcdb.proofs.TextReadings.{read_as, refused_as}
@@ -25,3 +26,12 @@ returns-in-Err-clause-fault g c =
     let reads = refused_as thread_script_of c.args.text.items c.as_slice.result.now c.read_thread_script-read.result c.in-Err.fault c.as_slice.ensures.value c.in-Err.is c.read_thread_script-read.ensures in
     ends_script (thread_script_of c.args.text.items) c.args.opening (g.W.Write.contents c.args.writer.now) (g.W.Write.contents c.refuse_script.new.writer) c.in-Err.fault c.refuse_script.result
     c.requires reads c.refuse_script.ensures
+
+pub returns-in-Ok-clause-unread : goal.returns-in-Ok-clause-unread
+returns-in-Ok-clause-unread g c =
+    IfErr-weaker c.run_opened.result _ _
+    (λ f h. in_threads (g.W.Write.contents c.args.writer.now) (g.W.Write.contents c.run_opened.new.writer) f _ _ h) c.run_opened.ensures.err
+
+pub returns-in-Err-clause-unread : goal.returns-in-Err-clause-unread
+returns-in-Err-clause-unread g c =
+    refusing_script (g.W.Write.contents c.args.writer.now) (g.W.Write.contents c.refuse_script.new.writer) c.in-Err.fault c.refuse_script.result c.refuse_script.ensures
