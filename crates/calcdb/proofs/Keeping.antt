@@ -23,7 +23,7 @@ use Rattle.calcdb.specs.declared.journals.Stop.{Stop}
 use Rattle.calcdb.specs.declared.journals.Stop.TheVariants as stop
 use Rattle.calcdb.proofs.CarryingOn.{Continues, carried_more, sent_after}
 
-same_taken : (c d : List Procedure) (o p : Image) (r s : List Record) (is : List Image) → c ≡ d → o ≡ p → r ≡ s →
+pub same_taken : (c d : List Procedure) (o p : Image) (r s : List Record) (is : List Image) → c ≡ d → o ≡ p → r ≡ s →
     ◌≡◌ {A = Taken} (record { catalog = c; opening = o; records = r; images = is }) (record { catalog = d; opening = p; records = s; images = is })
 same_taken c d o p r s is e f g = rw (e, f, g) refl
 

@@ -31,4 +31,5 @@ pub mod Shown
 pub mod TextReadings
 pub mod ThreadEndings
 pub mod ThreadEnds
+pub mod ThreadJournals
 pub mod WordValues

@@ -4,6 +4,10 @@ use Rattle.procedure.specs.Bytes.{Bytes}
 use Rattle.image.specs.Images.{Image}
 use Rattle.image.specs.Openings.{is_opening}
 use Rattle.calcdb.specs.Outcomes.{Refuses, RefusesScript}
+use Rattle.calcdb.specs.Journals.{IfFault}
+use Rattle.calcdb.specs.ThreadRuns.{StopsWith}
+use Rattle.calcdb.specs.declared.journals.Stop.{Stop}
+use Rattle.calcdb.specs.declared.journals.Stop.TheVariants as stop
 use Rattle.calcdb.specs.ThreadOutcomes.{EndsInThreads, StopsScript}
 use Rattle.calcdb.specs.Scripts.{ThreadScript}
 use Rattle.calcdb.specs.declared.faults.Fault.{Fault}
@@ -25,3 +29,12 @@ module _ (says : Result ThreadScript ScriptFault) (opening : Image) (old new : O
   pub ends_run : (s : ThreadScript) (f : Fault) → is_opening opening ≡ true → says ≡ Ok s → Refuses (fault.Refused NoView) old new f ⊎ StopsScript s old new f → EndsInThreads says opening old new f
   ends_run s f lawful reads (inl h) = inr (inl (fault.Refused NoView, inr (lawful, s, reads, refl), h))
   ends_run s f lawful reads (inr h) = inr (inr (s, lawful, reads, h))
+
+-- what is said of the fault by which a run ends, and of one whose journal couldn't begin
+pub stops_so : {F U V : Type 0} (P Q : Fault → Type 0) (s : Stop F) → ((f : Fault) → P f → Q f) → (U → V) → StopsWith P U s → StopsWith Q V s
+stops_so P Q (stop.Fault f) more same h = more f h
+stops_so P Q (stop.Journal e) more same h = same h
+
+pub stops_if_fault : {F : Type 0} (U : Type 0) (P Q : Fault → Type 0) (s : Stop F) → ((f : Fault) → P f → Q f) → StopsWith P U s → IfFault Q s
+stops_if_fault U P Q (stop.Fault f) more h = more f h
+stops_if_fault U P Q (stop.Journal e) more h = tt

@@ -80,10 +80,6 @@ ok_with (Err e) P Q R join p q = tt
 
 module _ (n m : ℕ) (ks js : List Bytes) where
   -- in the words of the script
-  pub same_runs : (core : CoreView) (images : List Image) (text : Bytes) → n ≡ m → ks ≡ js → RunsInThreads n ks core images text → RunsInThreads m js core images text
-  same_runs core images text count keys h =
-      subst (λ (k : ℕ). RunsInThreads k js core images text) count (subst (λ (l : List Bytes). RunsInThreads n l core images text) keys h)
-
   pub same_stops : (old new : Option Bytes) (f : Fault) → n ≡ m → ks ≡ js → Refuses (fault.Refused NoView) old new f ⊎ StopsInThreads n ks old new f → Refuses (fault.Refused NoView) old new f ⊎ StopsInThreads m js old new f
   same_stops old new f count keys h =
       subst (λ (k : ℕ). Refuses (fault.Refused NoView) old new f ⊎ StopsInThreads k js old new f) count (subst (λ (l : List Bytes). Refuses (fault.Refused NoView) old new f ⊎ StopsInThreads n l old new f) keys h)

@@ -108,9 +108,9 @@ AsksForNothing given = (t : Task) → AsksFor given t → ⊥
 abbrev pub IsNoTask : List Text → Type 0
 IsNoTask words = (t : Task) → IsTask words t → ⊥
 
--- `--live` wants a folder and no threads, and `--sync` wants it
+-- `--live` wants a folder, and `--sync` wants `--live`
 abbrev pub goes_together : Task → Bool
-goes_together (Run files) = if files.live then is_some files.folder && not files.threads else not files.sync
+goes_together (Run files) = if files.live then is_some files.folder else not files.sync
 goes_together (Load pairs out progress) = true
 goes_together (Merge out images progress) = true
 goes_together (Recover script log out images progress) = true

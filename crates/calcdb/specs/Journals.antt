@@ -1,5 +1,5 @@
 -- What a run gives to a journal on its way.
-use Rattle.std.specs.Prelude.{◌⊎◌, ◌≡◌, ℕ, length, List, [], ◌∷◌, ◌++◌, Option, option_map, option_to_list, Result, Ok, Err}
+use Rattle.std.specs.Prelude.{◌⊎◌, ◌≡◌, ℕ, length, List, [], ◌∷◌, ◌++◌, Option, None, Some, option_map, option_to_list, Result, Ok, Err}
 use Rattle.std.specs.Borrow.{Bor}
 use Rattle.std.specs.Io.KnownBytes.{Appends}
 use Rattle.procedure.specs.Bytes.{Bytes}
@@ -35,6 +35,12 @@ with_more t rs is = record t { records = t.records ++ rs; images = t.images ++ i
 -- the image that was given, if one was
 abbrev pub images_given : Option (Bor Image) → List Image
 images_given i = option_to_list (option_map (λ i. i.now) i)
+
+-- a journal that is told of more has all of it, or a front of what it was told of when it failed, so many records at least
+module _ {J F : Type 0} (Has : J → J → Taken → Type 0) (Front : J → J → Taken → ℕ → Type 0) (start now : J) where
+  abbrev pub IsTold : Option F → Taken → Type 0
+  IsTold None t = Has start now t
+  IsTold (Some f) t = (cut : Taken) × (rs : List Record) × (is : List Image) × (t ≡ with_more cut rs is) × (least : ℕ) × Front start now cut least
 
 module _ {F : Type 0} where
   -- where it was no journal that failed

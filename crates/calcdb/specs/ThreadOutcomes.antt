@@ -1,5 +1,5 @@
 -- How a run in threads ends.
-use Rattle.std.specs.Prelude.{◌≡◌, ◌⊎◌, true, false, [], length, List, Option, Result, Ok, Err}
+use Rattle.std.specs.Prelude.{◌≡◌, ◌⊎◌, Bool, true, false, [], length, List, Option, Result, Ok, Err}
 use Rattle.std.specs.Io.KnownBytes.{Appends}
 use Rattle.procedure.specs.Bytes.{Bytes}
 use Rattle.image.specs.Images.{Image}
@@ -8,7 +8,7 @@ use Rattle.steps.specs.CoreViews.{CoreView}
 use Rattle.workers.specs.Checkpointed.{IsFrom}
 use Rattle.calcdb.specs.Outcomes.{Refuses}
 use Rattle.calcdb.specs.Plans.{call_commands, keys_of}
-use Rattle.calcdb.specs.ThreadRuns.{RunsInThreads, StopsInThreads}
+use Rattle.calcdb.specs.ThreadRuns.{StopsInThreads, WritesRun}
 use Rattle.calcdb.specs.Scripts.{ThreadScript}
 use Rattle.calcdb.specs.declared.faults.Fault.{Fault}
 use Rattle.calcdb.specs.declared.faults.Fault.TheVariants as fault
@@ -17,12 +17,12 @@ use Rattle.calcdb.specs.declared.scripts.ScriptFault.{ScriptFault}
 use Rattle.calcdb.specs.declared.scripts.ScriptFault.TheVariants.{Line, Size}
 
 -- the opening is one, the text is a script, and it was run in threads on a core of its procedures and that opening
-pub record RunsToEnd (says : Result ThreadScript ScriptFault) (opening : Image) (core : CoreView) (images : List Image) (text : Bytes) : Type 0 where
+pub record RunsToEnd (is_kept : Bool) (says : Result ThreadScript ScriptFault) (opening : Image) (core : CoreView) (images : List Image) (old new : Option Bytes) : Type 0 where
   pub lawful : is_opening opening ≡ true
   pub script : ThreadScript
   pub reads : says ≡ Ok script
   pub origin : IsFrom script.catalog opening core
-  pub runs : RunsInThreads (length (call_commands script.commands)) (keys_of script.commands) core images text
+  pub writes : WritesRun is_kept (length (call_commands script.commands)) (keys_of script.commands) core images old new
 
 -- why nothing is run: the opening is no opening, the text is no script, or no view was opened
 abbrev pub IsFault : Result ThreadScript ScriptFault → Image → Fault → Type 0

@@ -1,5 +1,5 @@
 -- What a run in threads comes to, and what is printed of it.
-use Rattle.std.specs.Prelude.{◌≡◌, ◌⊎◌, ℕ, ◌-◌, codes, decimal, List, [], ◌∷◌, ◌++◌, length, Option, Result, Ok, Err}
+use Rattle.std.specs.Prelude.{◌≡◌, ◌⊎◌, ℕ, Bool, true, false, ◌-◌, codes, decimal, List, [], ◌∷◌, ◌++◌, length, Option, Result, Ok, Err}
 use Rattle.std.specs.Io.KnownBytes.{Appends}
 use mathlib.Core.List.{IsPrefix}
 use Rattle.procedure.specs.Bytes.{Bytes}
@@ -13,6 +13,8 @@ use Rattle.workers.specs.Checkpointed.{AreCuts, call_count}
 use Rattle.calcdb.specs.Runs.{Sent}
 use Rattle.calcdb.specs.declared.faults.Fault.{Fault}
 use Rattle.calcdb.specs.declared.faults.Fault.TheVariants as fault
+use Rattle.calcdb.specs.declared.journals.Stop.{Stop}
+use Rattle.calcdb.specs.declared.journals.Stop.TheVariants as stop
 use Rattle.calcdb.specs.Output.{cell_text, numbered_text, value_text}
 use Rattle.calcdb.specs.declared.looking.Found.{Found}
 use Rattle.calcdb.specs.declared.looking.Found.TheVariants.{Held, NotEntered, NoMemory}
@@ -60,8 +62,18 @@ pub record RunsInThreads (count : ℕ) (keys : List Bytes) (core : CoreView) (im
   pub shows : ShowsEach told keys views
   pub parts : text ≡ run_text count (call_count core.log) (length images) (Ok tt) ++ views
 
+-- what a run in threads wrote: its lines, and nothing where its journal failed
+abbrev pub WritesRun : (is_kept : Bool) → (count : ℕ) → (keys : List Bytes) → CoreView → List Image → (old new : Option Bytes) → Type 0
+WritesRun true count keys core images old new = (text : Bytes) × RunsInThreads count keys core images text × Appends old new text
+WritesRun false count keys core images old new = AreCuts core images × Appends old new []
+
 -- one that was stopped: nothing was written, or a beginning of such a text with the first keys
 abbrev pub StopsInThreads : (count : ℕ) → (keys : List Bytes) → (old new : Option Bytes) → Fault → Type 0
 StopsInThreads count keys old new f =
     ((f ≡ fault.NoMemory) × Appends old new [])
     ⊎ ((core : CoreView) × (images : List Image) × (front left : List Bytes) × (keys ≡ front ++ left) × (text : Bytes) × RunsInThreads count front core images text × Sent (Err f) old new text)
+
+-- how a run ends before its end: by a fault, or where its journal couldn't begin
+abbrev pub StopsWith : {F : Type 0} → (Fault → Type 0) → Type 0 → Stop F → Type 0
+StopsWith P Unbegun (stop.Fault f) = P f
+StopsWith P Unbegun (stop.Journal e) = Unbegun

@@ -75,7 +75,7 @@ impl Task<'_> {
         ensures { result ≡ goes_together self.now }
     {
         match self {
-            Task::Run(files) if files.live => files.folder.is_some() && !files.threads,
+            Task::Run(files) if files.live => files.folder.is_some(),
             Task::Run(files) => !files.sync,
             _ => true,
         }
@@ -425,7 +425,7 @@ fn apart<'a>(program: &mut Command<'a>) -> Result<Error, AllocError>
 {
     program.error(
         ErrorKind::ArgumentConflict,
-        "--live needs --out and goes without --threads, and --sync needs --live",
+        "--live needs --out, and --sync needs --live",
     )
 }
 

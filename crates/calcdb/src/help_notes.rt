@@ -19,7 +19,7 @@ took, and log. Images of an earlier run stay, so use an empty folder.
 
 With --live they are made while the script runs: what a command adds to the log is in DIR before the
 command is answered, so that a kill loses nothing that was answered. With --sync it is on disk, so that a
-stop of the machine doesn't either. DIR has no log and no image before. Both go without --threads.
+stop of the machine doesn't either. DIR has no log and no image before.
 
 Example: calcdb run bank.calc --open opening.img --out bank";
 

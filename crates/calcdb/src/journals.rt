@@ -32,7 +32,7 @@ pub(crate) trait Journal<R, A: Allocator> {
     ghost use Rattle.std.specs.Prelude.{◌≡◌, ℕ, [], OnErr, OnOk, length};
     ghost use Rattle.calcdb.specs.Journals.{Taken, images_given, taken_of, with_more};
 
-    type Failure;
+    type Failure: Drop;
 
     /// It has taken all of this since the start.
     ghost Has: { (start now : Self) → Taken → Type 0 };

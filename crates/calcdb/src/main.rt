@@ -46,6 +46,7 @@ mod tasks;
 #[cfg(test)]
 mod tests;
 mod thread_commands;
+mod thread_journals;
 mod thread_output;
 mod threads;
 mod values;

@@ -81,7 +81,7 @@ fn concluded<E: Write>(err: &mut E, done: Result<(), Failure<'_>>) -> u8
 pub(crate) fn perform<
     T: Threads + Wait + Sync,
     C: Clock + Sync,
-    R: Files + AllocGlobal,
+    R: Files + AllocGlobal + Sync,
     S: AsStr,
     I: Read,
     O: Write,
@@ -98,7 +98,9 @@ pub(crate) fn perform<
     err: &mut E,
 ) -> u8
 where
-    R::File: Drop,
+    R::File: Drop + Send,
+    R::Dir: Send,
+    R::A: Send,
 {
     match job(rt.alloc(), words) {
         Ok(task) => {
@@ -121,7 +123,7 @@ fn perform_buffered<
     V: Env + Alloc,
     T: Threads + Wait + Sync,
     C: Clock + Sync,
-    R: Files + AllocGlobal,
+    R: Files + AllocGlobal + Sync,
     I: Read,
     O: Write + Drop,
     E: Write + Send,
@@ -137,7 +139,9 @@ fn perform_buffered<
     err: &mut E,
 ) -> io::Result<u8>
 where
-    R::File: Drop,
+    R::File: Drop + Send,
+    R::Dir: Send,
+    R::A: Send,
 {
     let mut words = Vec::new(alloc);
     for word in env::args(env)? {
@@ -155,14 +159,16 @@ pub(crate) fn start<
     V: Env + Alloc,
     T: Threads + Wait + Sync,
     C: Clock + Sync,
-    R: Files + AllocGlobal,
+    R: Files + AllocGlobal + Sync,
     I: Read,
     O: Write + Drop,
     E: Write + Send,
     A: Allocator + Copy + Send + Sync,
 >(alloc: A, env: &V, threads: &T, clock: &C, rt: &R, stdin: &mut I, out: O, err: &mut E) -> u8
 where
-    R::File: Drop,
+    R::File: Drop + Send,
+    R::Dir: Send,
+    R::A: Send,
 {
     match perform_buffered(alloc, env, threads, clock, rt, stdin, out, err) {
         Ok(status) => status,

@@ -7,13 +7,14 @@ use crate::faults::refusals::write_fault;
 use crate::faults::subjects::Subject;
 use crate::faults::{Fault, Reason};
 use crate::files::{flush, input_of};
-use crate::journals::Stop;
+use crate::journals::{NoJournal, Stop};
 use crate::live_runs::LiveRun;
-use crate::new_files::NewFolder;
+use crate::new_files::{NewFile, NewFolder};
 use crate::other_images::{OtherImages, other_images};
 use crate::progress::{CountedBytes, CountedLines, CountedSteps, Progress};
 use crate::run_folder::write_run;
 use crate::sinks::Discard;
+use crate::thread_journals::ThreadJournal;
 use crate::threads::run_threads;
 use image::{Image, Kind, ReadError, ReadFromError, read_from};
 use std::alloc::Allocator;
@@ -127,7 +128,12 @@ fn run_reader<
     match threads {
         Some(threads) => {
             let gate = CountedSteps::new(progress);
-            run_threads(threads, alloc, script, out, opening, &gate)
+            let ran = run_threads(threads, alloc, &(), NoJournal, script, out, opening, &gate);
+            match ran {
+                Ok((ran, _)) => Ok(ran),
+                Err(Stop::Fault(fault)) => Err(fault),
+                Err(Stop::Journal(never)) => match never {},
+            }
         }
         None => {
             let mut lines = CountedLines::new(out, progress);
@@ -182,9 +188,68 @@ where
         Ok(ran) => {
             // As in `run_and_leave`.
             mem::forget(ran);
-            let ended = live.end(rt);
-            flush(out, Failure::CannotPrint)?;
-            ended
+            end_live(rt, live, None, out)
+        }
+        Err(Stop::Journal(failure)) => Err(failure),
+        Err(Stop::Fault(fault)) => Err(failure_of(fault, files)),
+    }
+}
+
+/// Ends a run whose folder was kept up, once its answers are out.
+fn end_live<'a, R: Files + Alloc, O: Write, A: Allocator + Copy>(
+    rt: &R,
+    mut live: LiveRun<NewFolder<'a, A>, NewFile<R::File, A>>,
+    failure: Option<Failure<'a>>,
+    out: &mut O,
+) -> Result<(), Failure<'a>>
+where
+    R::File: Drop,
+{
+    if let Some(failure) = failure {
+        return Err(failure);
+    }
+    let ended = live.end(rt);
+    flush(out, Failure::CannotPrint)?;
+    ended
+}
+
+/// Runs the script that a reader gives in threads, and keeps its folder up while it goes on.
+fn run_live_threads<
+    'a,
+    T: Threads + Wait + Sync,
+    R: Files + Alloc + Sync,
+    I: Read,
+    O: Write,
+    P: Progress + Sync,
+    A: Allocator + Copy + Send + Sync,
+>(
+    alloc: A,
+    threads: &T,
+    rt: &R,
+    path: &'a str,
+    files: RunFiles<'a>,
+    script: &mut I,
+    opening: Image<A>,
+    progress: Option<&P>,
+    out: &mut O,
+) -> Result<(), Failure<'a>>
+where
+    R::File: Drop + Send,
+    R::Dir: Send,
+    R::A: Send,
+{
+    let gate = CountedSteps::new(progress);
+    let live = LiveRun::new(NewFolder { alloc, path }, files.sync);
+    match run_threads(threads, alloc, rt, live, script, out, opening, &gate) {
+        Ok((ran, kept)) => {
+            // As in `run_and_leave`.
+            mem::forget(ran);
+            let ThreadJournal {
+                journal,
+                failure,
+                ..
+            } = kept;
+            end_live(rt, journal, failure, out)
         }
         Err(Stop::Journal(failure)) => Err(failure),
         Err(Stop::Fault(fault)) => Err(failure_of(fault, files)),
@@ -230,7 +295,7 @@ where
 pub(crate) fn run_task<
     'a,
     T: Threads + Wait + Sync,
-    R: Files + Alloc,
+    R: Files + Alloc + Sync,
     I: Read,
     O: Write,
     P: Progress + Sync,
@@ -245,12 +310,28 @@ pub(crate) fn run_task<
     out: &mut O,
 ) -> Result<Option<OtherImages<'a>>, Failure<'a>>
 where
-    R::File: Drop,
+    R::File: Drop + Send,
+    R::Dir: Send,
+    R::A: Send,
 {
     let opening = opening_of(alloc, rt, files.opening, out)?;
     let mut text = input_of(rt, files.script, stdin);
     let mut script = CountedBytes::new(&mut text, progress);
     match files.folder {
+        Some(path) if files.live && files.threads => {
+            run_live_threads(
+                alloc,
+                threads,
+                rt,
+                path,
+                files,
+                &mut script,
+                opening,
+                progress,
+                out,
+            )?;
+            Ok(None)
+        }
         Some(path) if files.live => {
             run_live(alloc, rt, path, files, &mut script, opening, progress, out)?;
             Ok(None)

@@ -204,7 +204,7 @@ where
 pub(crate) fn do_task<
     'a,
     T: Threads + Wait + Sync,
-    R: Files + Alloc,
+    R: Files + Alloc + Sync,
     I: Read,
     O: Write,
     P: Progress + Sync,
@@ -219,7 +219,9 @@ pub(crate) fn do_task<
     out: &mut O,
 ) -> Result<Option<OtherImages<'a>>, Failure<'a>>
 where
-    R::File: Drop,
+    R::File: Drop + Send,
+    R::Dir: Send,
+    R::A: Send,
 {
     let done = match task {
         Task::Run(files) => return run_task(alloc, threads, rt, *files, stdin, progress, out),

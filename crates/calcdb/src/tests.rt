@@ -20,6 +20,7 @@ mod kept_memory;
 mod large_tables;
 mod live_log;
 mod live_runs;
+mod live_threads;
 mod made_files;
 mod many_sessions;
 mod merges;

@@ -1,16 +1,17 @@
 //! A run of a script in threads, from its reader to its writer.
 
-ghost use Rattle.std.specs.Prelude.{◌≡◌, ◌≢◌, ◌⊎◌, ◌++◌, ◌∷◌, [], ◌+◌, Err, IfErr, IfOk, List, Ok, OnOk, Some, length, true};
+ghost use Rattle.std.specs.Prelude.{◌≡◌, ◌≢◌, ◌⊎◌, ◌++◌, ◌∷◌, [], ◌+◌, Err, IfErr, IfOk, IfSome, List, Ok, OnOk, Some, is_none, length, true};
 ghost use Rattle.std.specs.Io.KnownBytes.{Appends};
 ghost use mathlib.Core.List.{IsPrefix};
 ghost use Rattle.image.specs.Openings.{is_opening};
 ghost use Rattle.procedure.specs.Bytes.{Bytes};
 ghost use Rattle.view.specs.Views.{name_of};
 ghost use Rattle.workers.specs.Checkpointed.{AreCuts, IsFrom, call_count};
+ghost use Rattle.calcdb.specs.Journals.{IfFault, IsTold, taken_of};
 ghost use Rattle.calcdb.specs.Outcomes.{Refuses};
 ghost use Rattle.calcdb.specs.Plans.{call_commands, keys_of};
 ghost use Rattle.calcdb.specs.Runs.{Sent};
-ghost use Rattle.calcdb.specs.ThreadRuns.{RunsInThreads, ShowsEach, StopsInThreads, run_text};
+ghost use Rattle.calcdb.specs.ThreadRuns.{RunsInThreads, ShowsEach, StopsInThreads, StopsWith, WritesRun, run_text};
 ghost use Rattle.calcdb.specs.ThreadOutcomes.{EndsInThreads, RunsToEnd};
 ghost use Rattle.calcdb.specs.Scripts.{thread_script_of};
 ghost use Rattle.calcdb.specs.declared.faults.Fault.TheVariants as fault;
@@ -20,9 +21,11 @@ use crate::core_audits::audit_core;
 use crate::engine::{Ran, RanKept, refuse_script};
 use crate::faults::refusals::write_fault;
 use crate::faults::{Fault, Reason};
+use crate::journals::{Journal, Stop};
 use crate::looking::{Reader, learn, look, look_beside};
 use crate::plans::{Plan, plan_of};
 use crate::scripts::{SCRIPT_BYTES, Script, ThreadScript, read_thread_script};
+use crate::thread_journals::ThreadJournal;
 use crate::thread_output::{push_run, push_view};
 use image::{Image, Kind};
 use procedure::streams::{Unread, WriteFault, read_past, write_out};
@@ -37,7 +40,7 @@ use std::thread::{self, Threads};
 use steps::Core;
 use view::{Naming, Opened, Publisher, Told, open_view};
 use workers::checkpointed::{Checkpointed, count_calls};
-use workers::{Gate, NotRun, Origin, Report, run_all};
+use workers::{Beginning, Gate, Keeper, NotRun, Report, run_kept};
 
 /// Writes the lines of a run: its calls, its images and its audit.
 fn write_ran<W: Write, A: Allocator + Copy>(
@@ -105,45 +108,53 @@ fn look_each<J: Naming, W: Write, A: Allocator + Copy>(
     Ok(())
 }
 
-/// A core of the procedures and the opening that the name says.
+/// A core of the procedures and the opening that the name says, and a keeper that begins as it says.
 #[derive(Drop)]
-struct Named<J: Origin, A: Allocator> {
+struct Named<J: Beginning<K>, A: Allocator, K: Keeper<A> + Drop> {
     core: Core<A>,
+    keeper: K,
     name: PhantomData<J>,
     ghost origin: { IsFrom J.catalog J.opening core },
+    ghost begun: { ∥ J.begun ≡ Some keeper ∥₁ },
+    ghost told: { ∥ K.Has keeper keeper core.log [] ∥₁ },
 }
 
-/// Such a core after a run, with its images.
+/// Such a core after a run, with its images, and the keeper, which was told of them and of the log.
 #[derive(Drop)]
-struct Ended<J: Origin, A: Allocator> {
+struct Ended<J: Beginning<K>, A: Allocator, K: Keeper<A> + Drop> {
     taken: Checkpointed<A>,
+    keeper: K,
     name: PhantomData<J>,
     ghost origin: { IsFrom J.catalog J.opening taken.core },
+    ghost told: { ∥ IfSome J.begun (λ b. K.Has b keeper taken.core.log taken.images) ∥₁ },
 }
 
 /// Runs scripts and makes checkpoints, and then says that they have ended. The publisher comes back, with what
 /// it published.
 fn run_to_end<
-    J: Naming + Origin + Send + Sync,
+    J: Naming + Beginning<K> + Send + Sync,
     Q: Wait + Drop + Send + Sync,
     T: Threads + Wait + Sync,
     A: Allocator + Copy + Send + Sync,
     G: Gate + Sync,
+    K: Keeper<A> + Drop + Send,
 >(
     threads: &T,
     alloc: A,
-    named: Named<J, A>,
+    named: Named<J, A, K>,
     scripts: Vec<workers::Script<A>, A>,
     kinds: &[Kind],
     publisher: Publisher<J, Q, A>,
     gate: &G,
     ended: &AtomicBool,
-) -> Result<(Ended<J, A>, Publisher<J, Q, A>, Told<J, A>), NoMemory> {
-    let Named { core, name } = named;
-    let ran = run_all(threads, alloc, core, scripts, kinds, publisher, gate);
+) -> Result<(Ended<J, A, K>, Publisher<J, Q, A>, Told<J, A>), NoMemory> {
+    let Named { core, keeper, name } = named;
+    let ran = run_kept(
+        threads, alloc, core, scripts, kinds, publisher, gate, keeper,
+    );
     ended.store(true, Ordering::Relaxed);
     match ran {
-        Ok(report) => {
+        Ok((report, keeper)) => {
             let Report {
                 core,
                 shares,
@@ -154,11 +165,17 @@ fn run_to_end<
             } = report;
             drop(shares);
             let taken = Checkpointed::from_parts(core, images);
-            Ok((Ended { taken, name }, publisher, last))
+            let ended = Ended {
+                taken,
+                keeper,
+                name,
+            };
+            Ok((ended, publisher, last))
         }
-        Err(NotRun { core, publisher }) => {
+        Err((NotRun { core, publisher }, keeper)) => {
             drop(core);
             drop(publisher);
+            drop(keeper);
             Err(NoMemory)
         }
     }
@@ -186,32 +203,48 @@ fn write_ended<J: Naming, W: Write, A: Allocator + Copy>(
     }
 }
 
-/// Writes what came of a run, and the lines of the keys, by a reader that learns what was published last.
-fn finish_run<J: Naming + Origin, Q: Wait + Drop, W: Write, A: Allocator + Copy>(
+/// Writes what came of a run, and the lines of the keys, by a reader that learns what was published last. Where the
+/// keeper has failed it writes nothing.
+fn finish_run<
+    J: Naming + Beginning<K>,
+    Q: Wait + Drop,
+    W: Write,
+    A: Allocator + Copy,
+    K: Keeper<A> + Drop,
+>(
     alloc: A,
     writer: &mut W,
-    ended: Ended<J, A>,
+    ended: Ended<J, A, K>,
     publisher: Publisher<J, Q, A>,
     last: Told<J, A>,
     reader: Reader<J, A>,
     keys: Vec<Key, A>,
     count: usize,
-) -> Result<RanKept<A>, Fault>
-    ensures ok { IfOk result (λ r. (text : Bytes) × RunsInThreads count keys.items r.core r.images.items text × Appends (W.contents writer.old) (W.contents writer.new) text) }
-    ensures origin { IfOk result (λ r. IsFrom J.catalog J.opening r.core) }
+) -> Result<(RanKept<A>, K), Fault>
+    ensures ok { IfOk result (λ r. WritesRun (K.is_going r.1) count keys.items r.0.core r.0.images.items (W.contents writer.old) (W.contents writer.new)) }
+    ensures origin { IfOk result (λ r. IsFrom J.catalog J.opening r.0.core) }
+    ensures told { IfOk result (λ r. ∥ IfSome J.begun (λ b. K.Has b r.1 r.0.core.log r.0.images.items) ∥₁) }
     ensures err { IfErr result (StopsInThreads count keys.items (W.contents writer.old) (W.contents writer.new)) }
 {
-    let (core, images) = ended.taken.into_parts();
+    let Ended { taken, keeper, .. } = ended;
+    let (core, images) = taken.into_parts();
     let ran = Ran { core, images };
     let reader = learn(reader, last);
+    if !keeper.goes_on() {
+        drop(reader);
+        drop(keys);
+        drop(publisher);
+        return Ok((ran, keeper));
+    }
     let written = write_ended(alloc, writer, &ran, reader, keys.as_slice(), count);
     drop(keys);
     // The table is open to lookers as long as there is its publisher.
     drop(publisher);
     match written {
-        Ok(()) => Ok(ran),
+        Ok(()) => Ok((ran, keeper)),
         Err(fault) => {
             drop(ran);
+            drop(keeper);
             Err(fault)
         }
     }
@@ -221,23 +254,25 @@ fn finish_run<J: Naming + Origin, Q: Wait + Drop, W: Write, A: Allocator + Copy>
 /// of it.
 fn run_plan<
     'a,
-    J: Naming + Origin + Send + Sync,
+    J: Naming + Beginning<K> + Send + Sync,
     W: Write,
     T: Threads + Wait + Sync,
     A: Allocator + Copy + Send + Sync,
     G: Gate + Sync,
+    K: Keeper<A> + Drop + Send,
 >(
     threads: &'a T,
     alloc: A,
     writer: &mut W,
-    named: Named<J, A>,
+    named: Named<J, A, K>,
     plan: Plan<A>,
     publisher: Publisher<J, &'a T, A>,
     reader: Reader<J, A>,
     gate: &G,
-) -> Result<RanKept<A>, Fault>
-    ensures ok { IfOk result (λ r. (text : Bytes) × RunsInThreads plan.count plan.keys.items r.core r.images.items text × Appends (W.contents writer.old) (W.contents writer.new) text) }
-    ensures origin { IfOk result (λ r. IsFrom J.catalog J.opening r.core) }
+) -> Result<(RanKept<A>, K), Fault>
+    ensures ok { IfOk result (λ r. WritesRun (K.is_going r.1) plan.count plan.keys.items r.0.core r.0.images.items (W.contents writer.old) (W.contents writer.new)) }
+    ensures origin { IfOk result (λ r. IsFrom J.catalog J.opening r.0.core) }
+    ensures told { IfOk result (λ r. ∥ IfSome J.begun (λ b. K.Has b r.1 r.0.core.log r.0.images.items) ∥₁) }
     ensures err { IfErr result (StopsInThreads plan.count plan.keys.items (W.contents writer.old) (W.contents writer.new)) }
 {
     let Plan {
@@ -269,24 +304,29 @@ fn run_plan<
 
 /// Carries out a plan on a core, in a view of its own.
 fn run_in_view<
-    J: Naming + Origin + Send + Sync,
+    J: Naming + Beginning<K> + Send + Sync,
     W: Write,
     T: Threads + Wait + Sync,
     A: Allocator + Copy + Send + Sync,
     G: Gate + Sync,
+    K: Keeper<A> + Drop + Send,
 >(
     threads: &T,
     alloc: A,
     writer: &mut W,
     core: Core<A>,
+    keeper: K,
     plan: Plan<A>,
     opened: Opened<A>,
     gate: &G,
-) -> Result<RanKept<A>, Fault>
+) -> Result<(RanKept<A>, K), Fault>
     requires name { name_of opened ≡ J.book }
     requires origin { IsFrom J.catalog J.opening core }
-    ensures ok { IfOk result (λ r. (text : Bytes) × RunsInThreads plan.count plan.keys.items r.core r.images.items text × Appends (W.contents writer.old) (W.contents writer.new) text) }
-    ensures origin { IfOk result (λ r. IsFrom J.catalog J.opening r.core) }
+    requires begun { ∥ J.begun ≡ Some keeper ∥₁ }
+    requires told { ∥ K.Has keeper keeper core.log [] ∥₁ }
+    ensures ok { IfOk result (λ r. WritesRun (K.is_going r.1) plan.count plan.keys.items r.0.core r.0.images.items (W.contents writer.old) (W.contents writer.new)) }
+    ensures origin { IfOk result (λ r. IsFrom J.catalog J.opening r.0.core) }
+    ensures told { IfOk result (λ r. ∥ IfSome J.begun (λ b. K.Has b r.1 r.0.core.log r.0.images.items) ∥₁) }
     ensures err { IfErr result (λ f. Refuses (fault.Refused reason.NoView) (W.contents writer.old) (W.contents writer.new) f ⊎ StopsInThreads plan.count plan.keys.items (W.contents writer.old) (W.contents writer.new) f) }
 {
     match open_view::<J, &T, A>(alloc, threads, opened) {
@@ -297,7 +337,7 @@ fn run_in_view<
                 threads,
                 alloc,
                 writer,
-                Named { core, name },
+                Named { core, keeper, name },
                 plan,
                 publisher,
                 reader,
@@ -306,6 +346,7 @@ fn run_in_view<
         }
         Err(_) => {
             drop(core);
+            drop(keeper);
             drop(plan);
             let refused = Fault::Refused(Reason::NoView);
             Err(write_fault(alloc, writer, refused))
@@ -313,8 +354,12 @@ fn run_in_view<
     }
 }
 
-/// Carries out a script on a core that is opened for it.
-fn run_opened<
+/// Carries out a plan on a core that was just opened, in a view of its own. The journal has what the core was opened
+/// with.
+fn run_begun<
+    'a,
+    N: Journal<R, A> + Drop + Send,
+    R: Sync,
     W: Write,
     T: Threads + Wait + Sync,
     A: Allocator + Copy + Send + Sync,
@@ -322,57 +367,129 @@ fn run_opened<
 >(
     threads: &T,
     alloc: A,
+    keeper: ThreadJournal<'a, N, R, A>,
+    writer: &mut W,
+    core: Core<A>,
+    plan: Plan<A>,
+    gate: &G,
+) -> Result<(RanKept<A>, ThreadJournal<'a, N, R, A>), Fault>
+where
+    N::Failure: Send,
+    requires { core.log ≡ [] }
+    ensures ok { IfOk result (λ r. WritesRun (is_none r.1.failure) plan.count plan.keys.items r.0.core r.0.images.items (W.contents writer.old) (W.contents writer.new)) }
+    ensures origin { IfOk result (λ r. IsFrom core.catalog core.opening r.0.core) }
+    ensures told { (start : N) → IsTold N.Has N.HasFront start keeper.entry.journal keeper.entry.failure (taken_of core []) →
+        IfOk result (λ r. ∥ IsTold N.Has N.HasFront start r.1.journal r.1.failure (taken_of r.0.core r.0.images.items) ∥₁) }
+    ensures err { IfErr result (λ f. Refuses (fault.Refused reason.NoView) (W.contents writer.old) (W.contents writer.new) f ⊎ StopsInThreads plan.count plan.keys.items (W.contents writer.old) (W.contents writer.new) f) }
+{
+    run_in_view::<Brand, W, T, A, G, ThreadJournal<'a, N, R, A>>(
+        threads,
+        alloc,
+        writer,
+        core,
+        keeper,
+        plan,
+        Opened::new(),
+        gate,
+    )
+}
+
+/// Carries out a script on a core that is opened for it, of which the journal has the opening before any call.
+fn run_opened<
+    'a,
+    N: Journal<R, A> + Drop + Send,
+    R: Sync,
+    W: Write,
+    T: Threads + Wait + Sync,
+    A: Allocator + Copy + Send + Sync,
+    G: Gate + Sync,
+>(
+    threads: &T,
+    alloc: A,
+    rt: &'a R,
+    mut journal: N,
     writer: &mut W,
     script: ThreadScript<A>,
     opening: Image<A>,
     gate: &G,
-) -> Result<RanKept<A>, Fault>
+) -> Result<(RanKept<A>, ThreadJournal<'a, N, R, A>), Stop<N::Failure>>
+where
+    N::Failure: Send,
     requires { is_opening opening ≡ true }
-    ensures ok { IfOk result (λ r. (text : Bytes) × RunsInThreads (length (call_commands script.commands)) (keys_of script.commands) r.core r.images.items text × Appends (W.contents writer.old) (W.contents writer.new) text) }
-    ensures origin { IfOk result (λ r. IsFrom script.catalog opening r.core) }
-    ensures err { IfErr result (λ f. Refuses (fault.Refused reason.NoView) (W.contents writer.old) (W.contents writer.new) f ⊎ StopsInThreads (length (call_commands script.commands)) (keys_of script.commands) (W.contents writer.old) (W.contents writer.new) f) }
+    ensures ok { IfOk result (λ r. WritesRun (is_none r.1.failure) (length (call_commands script.commands)) (keys_of script.commands) r.0.core r.0.images.items (W.contents writer.old) (W.contents writer.new)) }
+    ensures origin { IfOk result (λ r. IsFrom script.catalog opening r.0.core) }
+    ensures told { IfOk result (λ r. ∥ IsTold N.Has N.HasFront journal r.1.journal r.1.failure (taken_of r.0.core r.0.images.items) ∥₁) }
+    ensures err { IfErr result (StopsWith (λ f. Refuses (fault.Refused reason.NoView) (W.contents writer.old) (W.contents writer.new) f ⊎ StopsInThreads (length (call_commands script.commands)) (keys_of script.commands) (W.contents writer.old) (W.contents writer.new) f) (Appends (W.contents writer.old) (W.contents writer.new) [])) }
 {
     let Script { catalog, commands } = script;
     let Ok(plan) = plan_of(alloc, commands.into_vec()) else {
-        return Err(Fault::NoMemory);
+        drop(journal);
+        return Err(Stop::Fault(Fault::NoMemory));
     };
-    match Core::open(alloc, catalog, opening) {
-        Ok(core) => {
-            run_in_view::<Brand, W, T, A, G>(
-                threads,
-                alloc,
-                writer,
-                core,
-                plan,
-                Opened::new(),
-                gate,
-            )
-        }
+    let Ok(core) = Core::open(alloc, catalog, opening) else {
         // The opening is one, so memory was wanting.
-        Err(_) => Err(Fault::NoMemory),
+        drop(plan);
+        drop(journal);
+        return Err(Stop::Fault(Fault::NoMemory));
+    };
+    match journal.open(alloc, rt, &core) {
+        Ok(()) => {
+            let keeper = ThreadJournal {
+                alloc,
+                rt,
+                journal,
+                failure: None,
+            };
+            match run_begun(threads, alloc, keeper, writer, core, plan, gate) {
+                Ok(ran) => Ok(ran),
+                Err(fault) => Err(Stop::Fault(fault)),
+            }
+        }
+        Err(failure) => {
+            drop(core);
+            drop(plan);
+            drop(journal);
+            Err(Stop::Journal(failure))
+        }
     }
 }
 
 /// Checks a text and carries it out.
-fn run_text<W: Write, T: Threads + Wait + Sync, A: Allocator + Copy + Send + Sync, G: Gate + Sync>(
+fn run_text<
+    'a,
+    N: Journal<R, A> + Drop + Send,
+    R: Sync,
+    W: Write,
+    T: Threads + Wait + Sync,
+    A: Allocator + Copy + Send + Sync,
+    G: Gate + Sync,
+>(
     threads: &T,
     alloc: A,
+    rt: &'a R,
+    journal: N,
     writer: &mut W,
     text: Vec<u8, A>,
     opening: Image<A>,
     gate: &G,
-) -> Result<RanKept<A>, Fault>
+) -> Result<(RanKept<A>, ThreadJournal<'a, N, R, A>), Stop<N::Failure>>
+where
+    N::Failure: Send,
     requires { is_opening opening ≡ true }
-    ensures run { IfOk result (λ r. (out : Bytes) × RunsToEnd (thread_script_of text.items) opening r.core r.images.items out × Appends (W.contents writer.old) (W.contents writer.new) out) }
-    ensures fault { IfErr result (EndsInThreads (thread_script_of text.items) opening (W.contents writer.old) (W.contents writer.new)) }
-    ensures unread { IfErr result (λ f. f ≢ fault.Read) }
+    ensures run { IfOk result (λ r. RunsToEnd (is_none r.1.failure) (thread_script_of text.items) opening r.0.core r.0.images.items (W.contents writer.old) (W.contents writer.new)) }
+    ensures told { IfOk result (λ r. ∥ IsTold N.Has N.HasFront journal r.1.journal r.1.failure (taken_of r.0.core r.0.images.items) ∥₁) }
+    ensures fault { IfErr result (StopsWith (EndsInThreads (thread_script_of text.items) opening (W.contents writer.old) (W.contents writer.new)) (Appends (W.contents writer.old) (W.contents writer.new) [])) }
+    ensures unread { IfErr result (IfFault (λ f. f ≢ fault.Read)) }
 {
     let read = read_thread_script(alloc, text.as_slice());
     // Its memory isn't needed while the script is carried out.
     drop(text);
     match read {
-        Ok(script) => run_opened(threads, alloc, writer, script, opening, gate),
-        Err(fault) => Err(refuse_script(alloc, writer, fault)),
+        Ok(script) => run_opened(threads, alloc, rt, journal, writer, script, opening, gate),
+        Err(fault) => {
+            drop(journal);
+            Err(Stop::Fault(refuse_script(alloc, writer, fault)))
+        }
     }
 }
 
@@ -382,8 +499,15 @@ fn run_text<W: Write, T: Threads + Wait + Sync, A: Allocator + Copy + Send + Syn
 /// is faulty, or no view can be opened, one line says so and nothing else is written. A read or write that
 /// fails, by an interruption too, and a write of no byte end the run. The threads pass the gate before each
 /// step.
+///
+/// A journal has what the core was opened with before the first call, and each record and image while the core's
+/// lock is held. It comes back with its failure, if it failed; then each session ended after its next answer, and
+/// nothing is written.
 pub(crate) fn run_threads<
-    R: Read,
+    'a,
+    N: Journal<R, A> + Drop + Send,
+    R: Sync,
+    I: Read,
     W: Write,
     T: Threads + Wait + Sync,
     A: Allocator + Copy + Send + Sync,
@@ -391,25 +515,37 @@ pub(crate) fn run_threads<
 >(
     threads: &T,
     alloc: A,
-    reader: &mut R,
+    rt: &'a R,
+    journal: N,
+    reader: &mut I,
     writer: &mut W,
     opening: Image<A>,
     gate: &G,
-) -> Result<RanKept<A>, Fault>
+) -> Result<(RanKept<A>, ThreadJournal<'a, N, R, A>), Stop<N::Failure>>
+where
+    N::Failure: Send,
     // Where the reader tells its bytes: the core has the script's procedures and the opening, each image is that
     // of its checkpoint in its log, the log passes its audit, and the lines of all that were written.
-    ensures run { IfOk result (λ r. (source : Bytes) → R.remaining reader.old ≡ Some source → (text : Bytes) × RunsToEnd (thread_script_of source) opening r.core r.images.items text × Appends (W.contents writer.old) (W.contents writer.new) text) }
-    // And else the one line of the fault, or a beginning of these lines.
-    ensures fault { IfErr result (λ f. (source : Bytes) → R.remaining reader.old ≡ Some source → EndsInThreads (thread_script_of source) opening (W.contents writer.old) (W.contents writer.new) f) }
+    ensures run { IfOk result (λ r. (source : Bytes) → I.remaining reader.old ≡ Some source → RunsToEnd (is_none r.1.failure) (thread_script_of source) opening r.0.core r.0.images.items (W.contents writer.old) (W.contents writer.new)) }
+    // The journal has all of the core's log and the images, or where it failed a front of what it was told of by then.
+    ensures told { IfOk result (λ r. ∥ IsTold N.Has N.HasFront journal r.1.journal r.1.failure (taken_of r.0.core r.0.images.items) ∥₁) }
+    // And else the one line of the fault, or a beginning of these lines; nothing where the journal couldn't begin.
+    ensures fault { IfErr result (λ s. (source : Bytes) → I.remaining reader.old ≡ Some source → StopsWith (EndsInThreads (thread_script_of source) opening (W.contents writer.old) (W.contents writer.new)) (Appends (W.contents writer.old) (W.contents writer.new) []) s) }
 {
     if !opening.is_opening() {
+        drop(journal);
         let refused = Fault::Refused(Reason::NotAnOpening);
-        return Err(write_fault(alloc, writer, refused));
+        return Err(Stop::Fault(write_fault(alloc, writer, refused)));
     }
     let text = match read_past(alloc, reader, SCRIPT_BYTES) {
         Ok(text) => text,
-        Err(Unread::ReadFault) => return Err(Fault::Read),
-        Err(Unread::NoMemory) => return Err(Fault::NoMemory),
+        Err(unread) => {
+            drop(journal);
+            return Err(Stop::Fault(match unread {
+                Unread::ReadFault => Fault::Read,
+                Unread::NoMemory => Fault::NoMemory,
+            }));
+        }
     };
-    run_text(threads, alloc, writer, text, opening, gate)
+    run_text(threads, alloc, rt, journal, writer, text, opening, gate)
 }

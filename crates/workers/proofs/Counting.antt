@@ -6,7 +6,7 @@ use Rattle.procedure.specs.declared.instructions.Call.{Call}
 use Rattle.steps.specs.declared.errors.StepError.{StepError}
 use Rattle.workers.specs.declared.shares.Given.{Given}
 use Rattle.workers.specs.declared.shares.Response.{Response}
-use Rattle.workers.specs.Sessions.{Deed, gains, Executes, runs, readied, was_ready, refused, ran_all, Attempts, not_begun, met_conflict, not_executed, not_finished, answered as was_answered, Makes, at_last, again, without_turn, MakesAll, no_call, one_more, the_last}
+use Rattle.workers.specs.Sessions.{Deed, gains, Executes, runs, readied, was_ready, refused, ran_all, Attempts, not_begun, met_conflict, not_executed, not_finished, answered as was_answered, Makes, at_last, again, without_turn, MakesAll, no_call, goes_no_further, one_more, the_last}
 use Rattle.workers.specs.Shares.{answered, gained}
 
 module _ {A S : Type 0} (does : Deed A → S → S → Type 0) (parts amount : S → ℕ) (grows : (d : Deed A) (s t : S) → does d s t → (parts t ≡ parts s) × (amount t ≡ amount s + gains d)) where
@@ -42,10 +42,11 @@ module _ {A S : Type 0} (does : Deed A → S → S → Type 0) (parts amount : S
 
   pub made_all : {n : ℕ} {cs : List (Call A)} {s t : S} {rs : List (Response A)} → MakesAll does n cs s t rs → Grows s t (answered rs)
   made_all no_call = (refl, omega arith)
-  made_all (one_more {c = c} {g = g} {rs = rs} l goes rest) =
-      ((made_all rest).0 ∙ (made l).0, omega (arith, (made l).1, (made_all rest).1, sum_by-cons (λ (r : Response A). gained r.given) (record { number = c.number; given = g }) rs))
-  made_all (the_last {c = c} {g = g} l ends) =
-      ((made l).0, omega (arith, (made l).1, sum_by-cons (λ (r : Response A). gained r.given) (record { number = c.number; given = g }) []))
+  made_all (goes_no_further d) = grows _ _ _ d
+  made_all (one_more {c = c} {g = g} {rs = rs} a l goes rest) =
+      ((made_all rest).0 ∙ ((made l).0 ∙ (grows _ _ _ a).0), omega (arith, (grows _ _ _ a).1, (made l).1, (made_all rest).1, sum_by-cons (λ (r : Response A). gained r.given) (record { number = c.number; given = g }) rs))
+  made_all (the_last {c = c} {g = g} a l ends) =
+      ((made l).0 ∙ (grows _ _ _ a).0, omega (arith, (grows _ _ _ a).1, (made l).1, sum_by-cons (λ (r : Response A). gained r.given) (record { number = c.number; given = g }) []))
 
   pub unmade : {n : ℕ} {cs : List (Call A)} {s t : S} {rs : List (Response A)} → ((rs ≡ []) × (t ≡ s)) ⊎ MakesAll does n cs s t rs → Grows s t (answered rs)
   unmade (inl none) = (ap parts none.1, ap amount none.1 ∙ omega (arith, ap answered none.0))

@@ -8,7 +8,7 @@ use Rattle.std.proofs.lemmas.List.{drop_all, drop_more}
 use Rattle.procedure.specs.declared.instructions.Call.{Call}
 use Rattle.workers.specs.declared.shares.Given.{Given}
 use Rattle.workers.specs.declared.shares.Given.TheVariants.{TurnsOut}
-use Rattle.workers.specs.Sessions.{Deed, steps, Executes, IsRefusal, runs, readied, was_ready, refused, ran_all, Attempts, Makes, at_last, again, without_turn, MakesAll, no_call, one_more, the_last}
+use Rattle.workers.specs.Sessions.{Deed, asks, steps, Executes, IsRefusal, runs, readied, was_ready, refused, ran_all, Attempts, Makes, at_last, again, without_turn, MakesAll, no_call, goes_no_further, one_more, the_last}
 use Rattle.workers.specs.declared.shares.Response.{Response}
 use Rattle.workers.specs.Shares.{stops}
 
@@ -57,11 +57,14 @@ module _ {A S : Type 0} (does : Deed A → S → S → Type 0) where
   first_left : (cs : List (Call A)) (k : ℕ) (c : Call A) → k < length cs → c ≡ slice_index_or cs k c → drop k cs ≡ c ∷ drop (k + 1) cs
   first_left cs k c within is = drop_more cs k c within ∙ ap (λ d. d ∷ drop (k + 1) cs) (sym is)
 
-  pub made_one : (cs : List (Call A)) (k : ℕ) {n m : ℕ} {c : Call A} {s t u : S} {g : Given A} {rs : List (Response A)} → k < length cs → c ≡ slice_index_or cs k c → Makes does c n m s t g → false ≡ stops g → MakesAll does m (drop (k + 1) cs) t u rs → MakesAll does n (drop k cs) s u (record { number = c.number; given = g } ∷ rs)
-  made_one cs k {n = n} {c = c} {s = s} {u = u} {g = g} {rs = rs} within is one goes rest = subst (λ l. MakesAll does n l s u (record { number = c.number; given = g } ∷ rs)) (sym (first_left cs k c within is)) (one_more one (sym goes) rest)
+  pub made_one : (cs : List (Call A)) (k : ℕ) {n m : ℕ} {c : Call A} {s t u v : S} {g : Given A} {rs : List (Response A)} → k < length cs → c ≡ slice_index_or cs k c → does (asks true) s t → Makes does c n m t u g → false ≡ stops g → MakesAll does m (drop (k + 1) cs) u v rs → MakesAll does n (drop k cs) s v (record { number = c.number; given = g } ∷ rs)
+  made_one cs k {n = n} {c = c} {s = s} {v = v} {g = g} {rs = rs} within is goes_on one goes rest = subst (λ l. MakesAll does n l s v (record { number = c.number; given = g } ∷ rs)) (sym (first_left cs k c within is)) (one_more goes_on one (sym goes) rest)
 
-  pub made_last : (cs : List (Call A)) (k : ℕ) {n m : ℕ} {c : Call A} {s t : S} {g : Given A} → k < length cs → c ≡ slice_index_or cs k c → Makes does c n m s t g → true ≡ stops g → MakesAll does n (drop k cs) s t (record { number = c.number; given = g } ∷ [])
-  made_last cs k {n = n} {c = c} {s = s} {t = t} {g = g} within is one ends = subst (λ l. MakesAll does n l s t (record { number = c.number; given = g } ∷ [])) (sym (first_left cs k c within is)) (the_last one (sym ends))
+  pub made_last : (cs : List (Call A)) (k : ℕ) {n m : ℕ} {c : Call A} {s t u : S} {g : Given A} → k < length cs → c ≡ slice_index_or cs k c → does (asks true) s t → Makes does c n m t u g → true ≡ stops g → MakesAll does n (drop k cs) s u (record { number = c.number; given = g } ∷ [])
+  made_last cs k {n = n} {c = c} {s = s} {u = u} {g = g} within is goes_on one ends = subst (λ l. MakesAll does n l s u (record { number = c.number; given = g } ∷ [])) (sym (first_left cs k c within is)) (the_last goes_on one (sym ends))
+
+  pub made_no_more : (cs : List (Call A)) (k : ℕ) {n : ℕ} {c : Call A} {s t : S} → k < length cs → c ≡ slice_index_or cs k c → does (asks false) s t → MakesAll does n (drop k cs) s t []
+  made_no_more cs k {n = n} {c = c} {s = s} {t = t} within is ends = subst (λ l. MakesAll does n l s t []) (sym (first_left cs k c within is)) (goes_no_further ends)
 
   pub made_all : (cs : List (Call A)) (k : ℕ) {n : ℕ} {s : S} → length cs ≤ k → MakesAll does n (drop k cs) s s []
   made_all cs k {n = n} {s = s} past = subst (λ l. MakesAll does n l s s []) (sym (drop_all k cs past)) no_call

@@ -1,5 +1,5 @@
 -- How the calls of a session are made: what its worker asks for, and what it answers to each call.
-use Rattle.std.specs.Prelude.{◌≡◌, ℕ, true, false, List, [], ◌∷◌, ◌+◌, Option, Some, None, suc, Ok, Err}
+use Rattle.std.specs.Prelude.{◌≡◌, ℕ, Bool, true, false, List, [], ◌∷◌, ◌+◌, Option, Some, None, suc, Ok, Err}
 use Rattle.std.specs.declared.result.Result.{Result}
 use Rattle.procedure.specs.declared.instructions.Call.{Call}
 use Rattle.procedure.specs.declared.limits.TheConstants.{INSTRUCTIONS}
@@ -18,6 +18,7 @@ use Rattle.workers.specs.Shares.{stops}
 
 -- one thing that a worker asks for, and the answer
 pub data Deed (A : Type 0) : Type 0 where
+  asks : Bool → Deed A
   begins : Call A → Result (Unit {0}) BeginError → Deed A
   steps : Result Stepped StepError → Deed A
   finishes : Result (Answer A) FinishError → Deed A
@@ -25,6 +26,7 @@ pub data Deed (A : Type 0) : Type 0 where
 
 -- 1 where a call is answered
 abbrev pub gains : {A : Type 0} → Deed A → ℕ
+gains (asks goes_on) = 0
 gains (begins c r) = 0
 gains (steps r) = 0
 gains (finishes (Ok a)) = 1
@@ -57,8 +59,9 @@ pub data Makes {A S : Type 0} (does : Deed A → S → S → Type 0) (c : Call A
   again : {n m : ℕ} {s t u : S} {g : Given A} → Attempts does c s t None → Makes does c n m t u g → Makes does c (suc n) m s u g
   without_turn : {s : S} → Makes does c 0 0 s s TurnsOut
 
--- each call of a session is made in turn, up to one whose refusal stops it
+-- each call of a session is made in turn while the session goes on, up to one whose refusal stops it
 pub data MakesAll {A S : Type 0} (does : Deed A → S → S → Type 0) : (turns : ℕ) → List (Call A) → (old new : S) → List (Response A) → Type 0 where
   no_call : {n : ℕ} {s : S} → MakesAll does n [] s s []
-  one_more : {n m : ℕ} {c : Call A} {cs : List (Call A)} {s t u : S} {g : Given A} {rs : List (Response A)} → Makes does c n m s t g → stops g ≡ false → MakesAll does m cs t u rs → MakesAll does n (c ∷ cs) s u (record { number = c.number; given = g } ∷ rs)
-  the_last : {n m : ℕ} {c : Call A} {cs : List (Call A)} {s t : S} {g : Given A} → Makes does c n m s t g → stops g ≡ true → MakesAll does n (c ∷ cs) s t (record { number = c.number; given = g } ∷ [])
+  goes_no_further : {n : ℕ} {c : Call A} {cs : List (Call A)} {s t : S} → does (asks false) s t → MakesAll does n (c ∷ cs) s t []
+  one_more : {n m : ℕ} {c : Call A} {cs : List (Call A)} {s t u v : S} {g : Given A} {rs : List (Response A)} → does (asks true) s t → Makes does c n m t u g → stops g ≡ false → MakesAll does m cs u v rs → MakesAll does n (c ∷ cs) s v (record { number = c.number; given = g } ∷ rs)
+  the_last : {n m : ℕ} {c : Call A} {cs : List (Call A)} {s t u : S} {g : Given A} → does (asks true) s t → Makes does c n m t u g → stops g ≡ true → MakesAll does n (c ∷ cs) s u (record { number = c.number; given = g } ∷ [])

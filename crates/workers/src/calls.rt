@@ -14,9 +14,13 @@ use steps::{Answer, BeginError, FinishError, StepError, Stepped};
 
 /// A session as its worker drives it. What each deed does to it is its own to say.
 pub trait Session<A: Allocator> {
-    ghost use Rattle.workers.specs.Sessions.{Deed, begins, steps, finishes, gives_up};
+    ghost use Rattle.workers.specs.Sessions.{Deed, asks, begins, steps, finishes, gives_up};
 
     ghost does: { Deed A → Self → Self → Type 0 };
+
+    /// Whether another call may be made.
+    fn goes_on(&mut self) -> bool
+        ensures { does (asks result) self.old self.new };
 
     /// Begins the call, with a copy of its arguments.
     fn begin(&mut self, call: &Call<A>) -> Result<(), BeginError>
@@ -97,7 +101,8 @@ fn make_call<A: Allocator, S: Session<A>>(
     Given::TurnsOut
 }
 
-/// Makes the calls in order, and keeps an answer to each in the list, which is empty.
+/// Makes the calls in order, and keeps an answer to each in the list, which is empty. Before each it asks whether the
+/// session goes on; where it doesn't, that call and those after it aren't made and have no answer.
 ///
 /// Room for the answers is made before the first call begins; where it is refused no call is begun, and the
 /// list stays empty. At a conflict the call is given up and begun again, which is one turn of all that the
@@ -119,6 +124,9 @@ pub fn make_calls<A: Allocator, S: Session<A>>(
     }
     let mut left = turns;
     for call in calls {
+        if !session.goes_on() {
+            break;
+        }
         let given = make_call(session, call, &mut left);
         let last = given.stops();
         answers.push_reserved(Response {

@@ -1,12 +1,12 @@
 //! A core with the images of its checkpoints.
 
-ghost use Rattle.std.specs.Prelude.{◌≡◌, ◌+◌, ◌++◌, ◌∷◌, [], IfOk, IsOk, MatchResult, None, OnErr, OnOk, Some, map};
+ghost use Rattle.std.specs.Prelude.{◌≡◌, ◌+◌, ◌++◌, ◌∷◌, ◌≤◌, [], IfOk, IsOk, MatchResult, None, OnErr, OnOk, Some, drop, length, map, option_copied};
 ghost use Rattle.pipe.specs.Rings.{SameTap};
 ghost use Rattle.steps.specs.Schedules.{AdvancesAs, BeginsAs, FinishesAs, GivesUpAs, StartsAs, StepsAs, VisitsAs};
 ghost use Rattle.workers.specs.Streams.{SendsAs, StreamsAs};
 ghost use Rattle.workers.specs.Claims.{is_call};
 ghost use Rattle.commitlog.specs.Histories.{phase_of};
-ghost use Rattle.workers.specs.Checkpointed.{AreCuts, ImagesStay, KeepsOrigin, TakesInto, call_count, last_image};
+ghost use Rattle.workers.specs.Checkpointed.{AreCuts, GoesOn, ImagesStay, KeepsOrigin, TakesInto, call_count, last_image};
 
 use crate::copies::copy_of_image;
 use commitlog::laws::{cuts_law, images_law};
@@ -74,6 +74,28 @@ impl<A: Allocator> Checkpointed<A> {
         count_calls(self.core.records())
     }
 
+    /// How many records the log has.
+    pub fn count_records(&self) -> usize
+        ensures { result ≡ length self.now.core.log }
+    {
+        self.core.records().len()
+    }
+
+    /// The records of the log after so many.
+    pub fn records_after(&self, count: usize) -> &[Record<A>]
+        requires { count ≤ length self.now.core.log }
+        ensures { result.now ≡ drop count self.now.core.log }
+    {
+        &self.core.records()[count..]
+    }
+
+    /// The image that was taken last.
+    pub fn last(&self) -> Option<&Image<A>>
+        ensures { option_copied result ≡ last_image self.now.images }
+    {
+        self.images.last()
+    }
+
     pub fn phase(&self) -> Phase
         ensures { result ≡ phase_of self.now.core.log }
     {
@@ -84,6 +106,7 @@ impl<A: Allocator> Checkpointed<A> {
         ensures core { GivesUpAs self.old.core self.new.core session result }
         ensures images { self.new.images ≡ self.old.images }
         ensures origin { KeepsOrigin self.old.core self.new.core }
+        ensures log { self.new.core.log ≡ self.old.core.log }
         ensures calls { call_count self.new.core.log ≡ call_count self.old.core.log }
     {
         self.core.give_up(session)
@@ -93,6 +116,7 @@ impl<A: Allocator> Checkpointed<A> {
         ensures core { StartsAs self.old.core self.new.core kind result }
         ensures images { self.new.images ≡ self.old.images }
         ensures origin { KeepsOrigin self.old.core self.new.core }
+        ensures log { GoesOn self.old.core.log self.new.core.log }
         ensures calls { call_count self.new.core.log ≡ call_count self.old.core.log }
     {
         images_stay_law();
@@ -104,6 +128,7 @@ impl<A: Allocator> Checkpointed<A> {
         ensures core { StreamsAs self.old.core self.new.core kind result }
         ensures images { self.new.images ≡ self.old.images }
         ensures origin { KeepsOrigin self.old.core self.new.core }
+        ensures log { GoesOn self.old.core.log self.new.core.log }
         ensures calls { call_count self.new.core.log ≡ call_count self.old.core.log }
     {
         images_stay_law();
@@ -116,6 +141,7 @@ impl<A: Allocator> Checkpointed<A> {
     pub fn take_image(&mut self) -> Result<bool, NoMemory>
         ensures taken { TakesInto self.old self.new result }
         ensures origin { KeepsOrigin self.old.core self.new.core }
+        ensures log { self.new.core.log ≡ self.old.core.log }
         ensures calls { call_count self.new.core.log ≡ call_count self.old.core.log }
     {
         self.images.reserve(1)?;
@@ -141,6 +167,7 @@ impl<A: Allocator + Clone> Checkpointed<A> {
         ensures core { BeginsAs self.old.core self.new.core session number procedure (map (λ b. b.items) args.items) result }
         ensures images { self.new.images ≡ self.old.images }
         ensures origin { KeepsOrigin self.old.core self.new.core }
+        ensures log { self.new.core.log ≡ self.old.core.log }
         ensures calls { call_count self.new.core.log ≡ call_count self.old.core.log }
     {
         self.core.begin(session, number, procedure, args)
@@ -150,6 +177,7 @@ impl<A: Allocator + Clone> Checkpointed<A> {
         ensures core { StepsAs self.old.core self.new.core session result }
         ensures images { self.new.images ≡ self.old.images }
         ensures origin { KeepsOrigin self.old.core self.new.core }
+        ensures log { self.new.core.log ≡ self.old.core.log }
         ensures calls { call_count self.new.core.log ≡ call_count self.old.core.log }
     {
         self.core.step(session)
@@ -159,6 +187,7 @@ impl<A: Allocator + Clone> Checkpointed<A> {
         ensures core { FinishesAs self.old.core self.new.core session result }
         ensures images { self.new.images ≡ self.old.images }
         ensures origin { KeepsOrigin self.old.core self.new.core }
+        ensures log { GoesOn self.old.core.log self.new.core.log }
         ensures calls { MatchResult result (λ _. call_count self.new.core.log ≡ call_count self.old.core.log + 1) (λ _. call_count self.new.core.log ≡ call_count self.old.core.log) }
     {
         images_stay_law();
@@ -170,6 +199,7 @@ impl<A: Allocator + Clone> Checkpointed<A> {
         ensures core { AdvancesAs self.old.core self.new.core result }
         ensures images { self.new.images ≡ self.old.images }
         ensures origin { KeepsOrigin self.old.core self.new.core }
+        ensures log { GoesOn self.old.core.log self.new.core.log }
         ensures calls { call_count self.new.core.log ≡ call_count self.old.core.log }
     {
         images_stay_law();
@@ -181,6 +211,7 @@ impl<A: Allocator + Clone> Checkpointed<A> {
         ensures core { VisitsAs self.old.core self.new.core result }
         ensures images { self.new.images ≡ self.old.images }
         ensures origin { KeepsOrigin self.old.core self.new.core }
+        ensures log { self.new.core.log ≡ self.old.core.log }
         ensures calls { call_count self.new.core.log ≡ call_count self.old.core.log }
     {
         self.core.capture()
@@ -191,6 +222,7 @@ impl<A: Allocator + Clone> Checkpointed<A> {
         ensures ring { SameTap tap.old tap.new }
         ensures images { self.new.images ≡ self.old.images }
         ensures origin { KeepsOrigin self.old.core self.new.core }
+        ensures log { self.new.core.log ≡ self.old.core.log }
         ensures calls { call_count self.new.core.log ≡ call_count self.old.core.log }
     {
         self.core.capture_to(tap)

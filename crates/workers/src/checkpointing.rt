@@ -5,7 +5,8 @@ ghost use Rattle.workers.specs.Positions.{IsWithin};
 
 use crate::checkpoints::{Checkpoints, Progress, make_checkpoints};
 use crate::gates::{Gate, Point};
-use crate::shared::{Origin, Shared};
+use crate::keepers::{Beginning, Keeper};
+use crate::shared::Shared;
 use image::{Image, Kind};
 use phase::Phase;
 use procedure::NoMemory;
@@ -37,15 +38,30 @@ impl<I: Drop> Listener<I> for Deaf {
 /// The checkpoints of a core under its lock, which it takes for each deed alone. Their images go into the
 /// list, and a copy of each to the listener.
 #[derive(Drop)]
-struct Locking<'a, L: Origin, A: Allocator, R: Wait, G: Gate, P: Listener<Image<A>>> {
+struct Locking<
+    'a,
+    L: Beginning<K>,
+    A: Allocator,
+    K: Keeper<A> + Drop,
+    R: Wait,
+    G: Gate,
+    P: Listener<Image<A>>,
+> {
     rt: &'a R,
-    shared: &'a Shared<L, A>,
+    shared: &'a Shared<L, A, K>,
     gate: &'a G,
     listener: &'a mut P,
 }
 
-impl<'a, L: Origin, A: Allocator + Clone, R: Wait, G: Gate, P: Listener<Image<A>>> Checkpoints
-    for Locking<'a, L, A, R, G, P> {
+impl<
+    'a,
+    L: Beginning<K>,
+    A: Allocator + Clone,
+    K: Keeper<A> + Drop,
+    R: Wait,
+    G: Gate,
+    P: Listener<Image<A>>,
+> Checkpoints for Locking<'a, L, A, K, R, G, P> {
     ghost does = { λ _ _ _. Unit {0} };
 
     fn phase(&mut self) -> Phase {
@@ -83,9 +99,16 @@ impl<'a, L: Origin, A: Allocator + Clone, R: Wait, G: Gate, P: Listener<Image<A>
 
 /// Makes the checkpoints from a position on, as `make_checkpoints` does. Their images go into the list, and a
 /// copy of each to the listener.
-pub(crate) fn make_from<L: Origin, A: Allocator + Clone, R: Wait, G: Gate, P: Listener<Image<A>>>(
+pub(crate) fn make_from<
+    L: Beginning<K>,
+    A: Allocator + Clone,
+    K: Keeper<A> + Drop,
+    R: Wait,
+    G: Gate,
+    P: Listener<Image<A>>,
+>(
     rt: &R,
-    shared: &Shared<L, A>,
+    shared: &Shared<L, A, K>,
     kinds: &[Kind],
     from: usize,
     turns: u64,
@@ -105,13 +128,13 @@ pub(crate) fn make_from<L: Origin, A: Allocator + Clone, R: Wait, G: Gate, P: Li
 
 /// Makes checkpoints of these kinds, as `make_checkpoints` does, and takes their images into the list. Where
 /// there is no room in it the image waits in the core.
-pub fn run_checkpoints<L: Origin, A: Allocator + Clone, R: Wait, G: Gate>(
-    rt: &R,
-    shared: &Shared<L, A>,
-    kinds: &[Kind],
-    turns: u64,
-    gate: &G,
-) -> Progress
+pub fn run_checkpoints<
+    L: Beginning<K>,
+    A: Allocator + Clone,
+    K: Keeper<A> + Drop,
+    R: Wait,
+    G: Gate,
+>(rt: &R, shared: &Shared<L, A, K>, kinds: &[Kind], turns: u64, gate: &G) -> Progress
     ensures { IsWithin (length kinds.now) result }
 {
     make_from(rt, shared, kinds, 0, turns, gate, &mut Deaf)

@@ -16,6 +16,9 @@ mod core_tests;
 pub mod errors;
 pub mod gates;
 pub mod gathering;
+#[cfg(test)]
+mod keeper_tests;
+pub mod keepers;
 pub mod laws;
 mod publishing;
 #[cfg(test)]
@@ -37,7 +40,8 @@ pub use checkpoints::{Checkpoints, Progress, make_checkpoints};
 pub use errors::{CallRefusal, CheckpointRefusal, GatherError, StreamError};
 pub use gates::{Gate, Open, Point};
 pub use gathering::gather;
-pub use runs::{NotRun, Report, Script, TURNS, run_all};
+pub use keepers::{Beginning, Keeper, NoKeeper};
+pub use runs::{NotRun, Report, Script, TURNS, run_all, run_kept};
 pub use sessions::run_session;
 pub use shared::{Locked, Origin, Shared, Tally};
 pub use shares::{Given, Response, Share};

@@ -9,9 +9,10 @@ use crate::checkpoints::Progress;
 use crate::errors::GatherError;
 use crate::gates::{Gate, Open, Point};
 use crate::gathering::gather;
+use crate::keepers::{Beginning, NoKeeper};
 use crate::runs::{NotRun, Report, Script, run_all};
 use crate::sessions::run_session;
-use crate::shared::{Origin, Shared};
+use crate::shared::Shared;
 use crate::shares::{Given, Response, Share};
 use commitlog::{Entry, Record};
 use image::{Image, Kind};
@@ -403,7 +404,7 @@ fn is_turns_out(response: &Response<Global>) -> bool {
 
 /// How many answers a session is given, and how many of them are that its turns ran out, while another holds
 /// the key of its first call; and where checkpoints stop then.
-fn run_out<L: Origin, R: Wait>(
+fn run_out<L: Beginning<NoKeeper>, R: Wait>(
     rt: &R,
     alloc: Global,
     core: Core<Global>,
@@ -416,7 +417,12 @@ fn run_out<L: Origin, R: Wait>(
     requires origin { IsFrom L.catalog L.opening core }
     requires some { 0 < L.parts }
 {
-    let (shared, tally) = Shared::<L, Global>::new(core, Vec::new(alloc), blank);
+    let (shared, tally) = Shared::<L, Global, NoKeeper>::new(
+        core,
+        Vec::new(alloc),
+        blank,
+        NoKeeper,
+    );
     let share = run_session(rt, Vec::new(alloc), &shared, tally, 0, calls, turns, &Open);
     let progress = run_checkpoints(rt, &shared, &[Kind::Full, Kind::Full], turns, &Open);
     let out = share

@@ -1,6 +1,6 @@
 //! A thread for each session, and one for the checkpoints.
 
-ghost use Rattle.std.specs.Prelude.{◌≡◌, ◌+◌, ◌<◌, ◌≤◌, [], IfErr, IfOk, length, vec_capacity, vec_len};
+ghost use Rattle.std.specs.Prelude.{◌≡◌, ◌+◌, ◌<◌, ◌≤◌, [], IfErr, IfOk, IfSome, length, vec_capacity, vec_len};
 ghost use Rattle.view.specs.Views.{published};
 ghost use Rattle.workers.specs.Checkpointed.{AreCuts, IsFrom, KeepsOrigin, call_count};
 ghost use Rattle.workers.specs.Positions.{IsWithin};
@@ -11,9 +11,10 @@ use crate::checkpointing::{Listener, make_from};
 use crate::checkpoints::Progress;
 use crate::copies::copy_of_image;
 use crate::gates::Gate;
+use crate::keepers::{Beginning, Keeper, NoKeeper};
 use crate::publishing::Publishing;
 use crate::sessions::run_session;
-use crate::shared::{Origin, Shared, Tally};
+use crate::shared::{Shared, Tally};
 use crate::shares::{Response, Share};
 use image::{Image, Kind};
 use left_right::Absorb;
@@ -46,9 +47,9 @@ pub(crate) struct Work<A: Allocator> {
     ghost empty: { answers.items ≡ [] },
 }
 
-fn run_work<L: Origin, A: Allocator + Clone, R: Wait, G: Gate>(
+fn run_work<L: Beginning<K>, A: Allocator + Clone, K: Keeper<A> + Drop, R: Wait, G: Gate>(
     rt: &R,
-    shared: &Shared<L, A>,
+    shared: &Shared<L, A, K>,
     tally: Tally<L>,
     work: Work<A>,
     gate: &G,
@@ -73,13 +74,14 @@ fn run_work<L: Origin, A: Allocator + Clone, R: Wait, G: Gate>(
 /// A thread for each script. Their shares go behind those that are there, and their tallies into the one
 /// that is left.
 pub(crate) fn run_each<
-    L: Origin + Send + Sync,
+    L: Beginning<K> + Send + Sync,
     A: Allocator + Clone + Send + Sync,
+    K: Keeper<A> + Drop + Send,
     R: Threads + Wait + Sync,
     G: Gate + Sync,
 >(
     rt: &R,
-    shared: &Shared<L, A>,
+    shared: &Shared<L, A, K>,
     works: Vec<Work<A>, A>,
     tally: Tally<L>,
     shares: Vec<Share<(), A>, A>,
@@ -125,17 +127,19 @@ pub(crate) fn run_each<
 
 /// What threads leave.
 #[derive(Drop)]
-struct Ran<A: Allocator> {
+struct Ran<A: Allocator, K: Drop> {
     core: Core<A>,
     shares: Vec<Share<(), A>, A>,
     images: Vec<Image<A>, A>,
     checkpoints: Progress,
+    keeper: K,
 }
 
 /// Runs the scripts and makes the checkpoints. Those that are left when the sessions have ended are made then.
 fn run_in<
-    L: Origin + Send + Sync,
+    L: Beginning<K> + Send + Sync,
     A: Allocator + Clone + Send + Sync,
+    K: Keeper<A> + Drop + Send,
     P: Listener<Image<A>> + Send,
     R: Threads + Wait + Sync,
     G: Gate + Sync,
@@ -149,19 +153,22 @@ fn run_in<
     shares: Vec<Share<(), A>, A>,
     listener: &mut P,
     gate: &G,
-) -> Ran<A>
+    keeper: K,
+) -> Ran<A, K>
     requires name { blank.name ≡ L.name }
     requires parts { (blank.parts ≡ L.parts) × (vec_len works < L.parts) }
     requires origin { IsFrom L.catalog L.opening core }
     requires room { vec_len shares + vec_len works ≤ vec_capacity shares }
     requires empty { (shares.items ≡ []) × (images.items ≡ []) }
+    requires kept { ∥ IfSome L.begun (λ b. K.Has b keeper core.log []) ∥₁ }
     ensures calls { call_count result.core.log ≡ call_count core.log + all_answered result.shares.items }
     ensures cuts { AreCuts result.core result.images.items }
     ensures origin { IsFrom L.catalog L.opening result.core }
     ensures len { vec_len result.shares ≡ vec_len shares + vec_len works }
     ensures within { IsWithin (length kinds.now) result.checkpoints }
+    ensures kept { ∥ IfSome L.begun (λ b. K.Has b result.keeper result.core.log result.images.items) ∥₁ }
 {
-    let (shared, tally) = Shared::<L, A>::new(core, images, blank);
+    let (shared, tally) = Shared::<L, A, K>::new(core, images, blank, keeper);
     let lent = &shared;
     let heard = &mut *listener;
     let watch = move || -> Progress
@@ -176,12 +183,13 @@ fn run_in<
         Progress::TurnsOut(from) => { make_from(rt, &shared, kinds, from, TURNS, gate, listener) }
         _ => progress,
     };
-    let (core, images) = shared.close(tally);
+    let (core, images, keeper) = shared.close(tally);
     Ran {
         core,
         shares,
         images,
         checkpoints,
+        keeper,
     }
 }
 
@@ -297,8 +305,46 @@ pub fn run_all<
     ensures last { IfOk result (λ r. r.last ≡ published r.publisher) }
     ensures err { IfErr result (λ e. (e.core ≡ core) × (e.publisher ≡ publisher)) }
 {
+    match run_kept(rt, alloc, core, scripts, kinds, publisher, gate, NoKeeper) {
+        Ok((report, _)) => Ok(report),
+        Err((not_run, _)) => Err(not_run),
+    }
+}
+
+/// Runs scripts and makes checkpoints as `run_all` does, and has a keeper take each record that the core adds to its
+/// log, and each image that is taken, while the core's lock is held. Where the keeper takes no more, each session
+/// ends after its next answer.
+///
+/// The keeper comes back, also where nothing was run.
+pub fn run_kept<
+    J: Naming + Send + Sync,
+    Q: Wait + Drop + Send + Sync,
+    A: Allocator + Copy + Send + Sync,
+    R: Threads + Wait + Sync,
+    G: Gate + Sync,
+    K: Keeper<A> + Drop + Send,
+>(
+    rt: &R,
+    alloc: A,
+    core: Core<A>,
+    scripts: Vec<Script<A>, A>,
+    kinds: &[Kind],
+    publisher: Publisher<J, Q, A>,
+    gate: &G,
+    keeper: K,
+) -> Result<(Report<J, Q, A>, K), (NotRun<J, Q, A>, K)>
+    requires { ∥ K.Has keeper keeper core.log [] ∥₁ }
+    ensures calls { IfOk result (λ r. call_count r.0.core.log ≡ call_count core.log + all_answered r.0.shares.items) }
+    ensures origin { IfOk result (λ r. KeepsOrigin core r.0.core) }
+    ensures cuts { IfOk result (λ r. AreCuts r.0.core r.0.images.items) }
+    ensures len { IfOk result (λ r. vec_len r.0.shares ≡ vec_len scripts) }
+    ensures within { IfOk result (λ r. IsWithin (length kinds.now) r.0.checkpoints) }
+    ensures last { IfOk result (λ r. r.0.last ≡ published r.0.publisher) }
+    ensures kept { IfOk result (λ r. ∥ K.Has keeper r.1 r.0.core.log r.0.images.items ∥₁) }
+    ensures err { IfErr result (λ e. (e.0.core ≡ core) × (e.0.publisher ≡ publisher) × (e.1 ≡ keeper)) }
+{
     let Ok(room) = prepare(&alloc, scripts) else {
-        return Err(NotRun { core, publisher });
+        return Err((NotRun { core, publisher }, keeper));
     };
     let opening = copy_of_image(alloc, core.opening());
     let mut listener = Publishing {
@@ -313,7 +359,7 @@ pub fn run_all<
         parts,
     } = room;
     let blank = Blank::new(parts);
-    let ran = run_in::<Brand, A, Publishing<J, Q, A>, R, G>(
+    let ran = run_in::<Brand, A, K, Publishing<J, Q, A>, R, G>(
         rt,
         blank,
         core,
@@ -323,6 +369,7 @@ pub fn run_all<
         shares,
         &mut listener,
         gate,
+        keeper,
     );
     let Publishing {
         publisher,
@@ -331,27 +378,30 @@ pub fn run_all<
     Ok(report_of(ran, publisher))
 }
 
-/// The report of what ran.
-fn report_of<J: Naming, Q: Wait + Drop, A: Allocator + Copy>(
-    ran: Ran<A>,
+/// The report of what ran, and the keeper.
+fn report_of<J: Naming, Q: Wait + Drop, A: Allocator + Copy, K: Drop>(
+    ran: Ran<A, K>,
     publisher: Publisher<J, Q, A>,
-) -> Report<J, Q, A>
-    ensures same { (result.core ≡ ran.core) × (result.shares ≡ ran.shares) × (result.images ≡ ran.images) × (result.checkpoints ≡ ran.checkpoints) }
-    ensures last { result.last ≡ published result.publisher }
+) -> (Report<J, Q, A>, K)
+    ensures same { (result.0.core ≡ ran.core) × (result.0.shares ≡ ran.shares) × (result.0.images ≡ ran.images) × (result.0.checkpoints ≡ ran.checkpoints) }
+    ensures keeper { result.1 ≡ ran.keeper }
+    ensures last { result.0.last ≡ published result.0.publisher }
 {
     let Ran {
         core,
         shares,
         images,
         checkpoints,
+        keeper,
     } = ran;
     let last = publisher.tell();
-    Report {
+    let report = Report {
         core,
         shares,
         images,
         checkpoints,
         publisher,
         last,
-    }
+    };
+    (report, keeper)
 }

@@ -7,7 +7,8 @@ ghost use Rattle.workers.specs.Shares.{answered};
 use crate::calls::{Session, make_calls};
 use crate::copies::copy_of_args;
 use crate::gates::{Gate, Point};
-use crate::shared::{Origin, Shared, Tally};
+use crate::keepers::{Beginning, Keeper};
+use crate::shared::{Shared, Tally};
 use crate::shares::{Response, Share};
 use procedure::{Call, NoMemory};
 use std::alloc::Allocator;
@@ -17,18 +18,25 @@ use steps::{Answer, BeginError, FinishError, StepError, Stepped};
 /// A session of a core under its lock, which it takes for each deed alone. Its tally grows by one for each
 /// answer with a place. A call's own session isn't read.
 #[derive(Drop)]
-struct Locking<'a, L: Origin, A: Allocator, R: Wait, G: Gate> {
+struct Locking<'a, L: Beginning<K>, A: Allocator, K: Keeper<A> + Drop, R: Wait, G: Gate> {
     rt: &'a R,
-    shared: &'a Shared<L, A>,
+    shared: &'a Shared<L, A, K>,
     tally: Tally<L>,
     session: u16,
     gate: &'a G,
+    /// Whether the keeper took more at the session's last answer.
+    goes_on: bool,
     ghost counts: { 0 < tally.part.parts },
 }
 
-impl<'a, L: Origin, A: Allocator + Clone, R: Wait, G: Gate> Session<A> for Locking<'a, L, A, R, G> {
+impl<'a, L: Beginning<K>, A: Allocator + Clone, K: Keeper<A> + Drop, R: Wait, G: Gate> Session<A>
+    for Locking<'a, L, A, K, R, G> {
     ghost does = { λ d s t. (t.tally.part.parts ≡ s.tally.part.parts)
         × (t.tally.part.amount ≡ s.tally.part.amount + gains d) };
+
+    fn goes_on(&mut self) -> bool {
+        self.goes_on
+    }
 
     fn begin(&mut self, call: &Call<A>) -> Result<(), BeginError> {
         self.gate.pass(Point::Begin(self.session));
@@ -49,10 +57,10 @@ impl<'a, L: Origin, A: Allocator + Clone, R: Wait, G: Gate> Session<A> for Locki
 
     fn finish(&mut self) -> Result<Answer<A>, FinishError> {
         self.gate.pass(Point::Finish(self.session));
-        self.shared
-            .lock
-            .lock(self.rt)
-            .finish(self.session, &mut self.tally)
+        let mut locked = self.shared.lock.lock(self.rt);
+        let answer = locked.finish(self.session, &mut self.tally);
+        self.goes_on = locked.goes_on();
+        answer
     }
 
     fn give_up(&mut self) {
@@ -61,11 +69,12 @@ impl<'a, L: Origin, A: Allocator + Clone, R: Wait, G: Gate> Session<A> for Locki
 }
 
 /// Makes the calls of a session in order, as `make_calls` does, and keeps an answer to each in the list, which
-/// is empty. The tally grows by one for each answer with a place. A call's own session isn't read.
-pub fn run_session<L: Origin, A: Allocator + Clone, R: Wait, G: Gate>(
+/// is empty. The tally grows by one for each answer with a place. A call's own session isn't read. After an answer
+/// at which the keeper takes no more, no further call is made.
+pub fn run_session<L: Beginning<K>, A: Allocator + Clone, K: Keeper<A> + Drop, R: Wait, G: Gate>(
     rt: &R,
     answers: Vec<Response<A>, A>,
-    shared: &Shared<L, A>,
+    shared: &Shared<L, A, K>,
     tally: Tally<L>,
     session: u16,
     calls: &[Call<A>],
@@ -85,6 +94,7 @@ pub fn run_session<L: Origin, A: Allocator + Clone, R: Wait, G: Gate>(
         tally,
         session,
         gate,
+        goes_on: true,
     };
     make_calls(&mut answers, &mut locking, calls, turns);
     let Locking { tally, .. } = locking;

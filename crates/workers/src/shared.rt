@@ -1,6 +1,8 @@
 //! A core under a lock, with the count of its calls.
 
-ghost use Rattle.std.specs.Prelude.{◌≡◌, ◌+◌, ◌<◌, [], IfOk, IsOk, MatchResult, map};
+ghost use Rattle.std.specs.Prelude.{◌≡◌, ◌+◌, ◌<◌, ◌≤◌, ◌++◌, ◌∷◌, [], IfOk, IfSome, IsOk, List, MatchResult, Some, drop, length, map};
+ghost use Rattle.commitlog.specs.Records.{Record};
+ghost use Rattle.image.specs.Images.{Image as SpecImage};
 ghost use Rattle.commitlog.specs.Histories.{phase_of};
 ghost use Rattle.pipe.specs.Rings.{SameTap};
 ghost use Rattle.steps.specs.Schedules.{AdvancesAs, BeginsAs, FinishesAs, GivesUpAs, StartsAs, StepsAs, VisitsAs};
@@ -8,6 +10,7 @@ ghost use Rattle.workers.specs.Checkpointed.{AreCuts, IsFrom, TakesInto, call_co
 ghost use Rattle.workers.specs.Streams.{SendsAs, StreamsAs};
 
 use crate::checkpointed::Checkpointed;
+use crate::keepers::{Beginning, Keeper};
 use image::{Image, Kind};
 use phase::Phase;
 use pipe::Tap;
@@ -50,17 +53,40 @@ pub struct Tally<L: Ledger> {
     pub part: Part<L>,
 }
 
-/// What lies under the lock: a core with its images, of the procedures and the opening that it was shared with,
-/// and the book of a ledger whose total is the number of the log's calls. Each method is one call of the core.
-#[derive(Drop)]
-pub struct Locked<L: Origin, A: Allocator> {
-    held: Checkpointed<A>,
-    calls: Book<L>,
-    ghost counted: { call_count held.core.log ≡ calls.total },
-    ghost origin: { IsFrom L.catalog L.opening held.core },
+/// Tells a keeper of the records of a log after so many.
+fn tell_records<A: Allocator, K: Keeper<A>>(keeper: &mut K, held: &Checkpointed<A>, before: usize)
+    requires { before ≤ length held.now.core.log }
+    ensures { (begun : K) (log : List Record) (images : List SpecImage) → K.Has begun keeper.old log images →
+        K.Has begun keeper.new (log ++ drop before held.now.core.log) images }
+{
+    keeper.keep_records(held.records_after(before));
 }
 
-impl<L: Origin, A: Allocator + Clone> Locked<L, A> {
+/// Tells a keeper of the image that was taken last.
+fn tell_image<A: Allocator, K: Keeper<A>>(keeper: &mut K, held: &Checkpointed<A>)
+    ensures { (last : SpecImage) → last_image held.now.images ≡ Some last →
+        (begun : K) (log : List Record) (images : List SpecImage) → K.Has begun keeper.old log images →
+        K.Has begun keeper.new log (images ++ last ∷ []) }
+{
+    if let Some(image) = held.last() {
+        keeper.keep_image(image);
+    }
+}
+
+/// What lies under the lock: a core with its images, of the procedures and the opening that it was shared with,
+/// the book of a ledger whose total is the number of the log's calls, and a keeper that was told of the log and the
+/// images. Each method is one call of the core.
+#[derive(Drop)]
+pub struct Locked<L: Beginning<K>, A: Allocator, K: Keeper<A> + Drop> {
+    held: Checkpointed<A>,
+    calls: Book<L>,
+    keeper: K,
+    ghost counted: { call_count held.core.log ≡ calls.total },
+    ghost origin: { IsFrom L.catalog L.opening held.core },
+    ghost kept: { ∥ IfSome L.begun (λ b. K.Has b keeper held.core.log held.images) ∥₁ },
+}
+
+impl<L: Beginning<K>, A: Allocator + Clone, K: Keeper<A> + Drop> Locked<L, A, K> {
     pub fn begin(
         &mut self,
         session: u16,
@@ -79,17 +105,27 @@ impl<L: Origin, A: Allocator + Clone> Locked<L, A> {
         self.held.step(session)
     }
 
-    /// A call that is answered counts in the tally.
+    /// A call that is answered counts in the tally, and the keeper takes its record.
     pub fn finish(&mut self, session: u16, tally: &mut Tally<L>) -> Result<Answer<A>, FinishError>
         requires { 0 < tally.old.part.parts }
         ensures core { FinishesAs self.old.held.core self.new.held.core session result }
         ensures parts { tally.new.part.parts ≡ tally.old.part.parts }
         ensures amount { MatchResult result (λ _. tally.new.part.amount ≡ tally.old.part.amount + 1) (λ _. tally.new.part.amount ≡ tally.old.part.amount) }
     {
-        let Locked { held, calls } = self;
-        let answer = held.finish(session)?;
-        calls.add(&mut tally.part, 1);
-        Ok(answer)
+        let Locked {
+            held,
+            calls,
+            keeper,
+        } = self;
+        let before = held.count_records();
+        match held.finish(session) {
+            Ok(answer) => {
+                tell_records(keeper, held, before);
+                calls.add(&mut tally.part, 1);
+                Ok(answer)
+            }
+            Err(refusal) => Err(refusal),
+        }
     }
 
     pub fn give_up(&mut self, session: u16) -> Result<(), NotActive>
@@ -107,19 +143,43 @@ impl<L: Origin, A: Allocator + Clone> Locked<L, A> {
     pub fn start(&mut self, kind: Kind) -> Result<u64, StartError>
         ensures { StartsAs self.old.held.core self.new.held.core kind result }
     {
-        self.held.start(kind)
+        let Locked { held, keeper, .. } = self;
+        let before = held.count_records();
+        match held.start(kind) {
+            Ok(number) => {
+                tell_records(keeper, held, before);
+                Ok(number)
+            }
+            Err(refusal) => Err(refusal),
+        }
     }
 
     pub fn start_streamed(&mut self, kind: Kind) -> Result<u64, StartError>
         ensures { StreamsAs self.old.held.core self.new.held.core kind result }
     {
-        self.held.start_streamed(kind)
+        let Locked { held, keeper, .. } = self;
+        let before = held.count_records();
+        match held.start_streamed(kind) {
+            Ok(number) => {
+                tell_records(keeper, held, before);
+                Ok(number)
+            }
+            Err(refusal) => Err(refusal),
+        }
     }
 
     pub fn advance(&mut self) -> Result<Phase, AdvanceError>
         ensures { AdvancesAs self.old.held.core self.new.held.core result }
     {
-        self.held.advance()
+        let Locked { held, keeper, .. } = self;
+        let before = held.count_records();
+        match held.advance() {
+            Ok(phase) => {
+                tell_records(keeper, held, before);
+                Ok(phase)
+            }
+            Err(refusal) => Err(refusal),
+        }
     }
 
     pub fn capture(&mut self) -> Result<Captured, CaptureError>
@@ -135,12 +195,24 @@ impl<L: Origin, A: Allocator + Clone> Locked<L, A> {
         self.held.capture_to(tap)
     }
 
-    /// The finished image goes to the end of the list, and whether there was one is answered. Where there is
-    /// no room for it (`NoMemory`) it waits on.
+    /// The finished image goes to the end of the list, the keeper takes it too, and whether there was one is
+    /// answered. Where there is no room for it (`NoMemory`) it waits on.
     pub fn take_image(&mut self) -> Result<bool, NoMemory>
         ensures { TakesInto self.old.held self.new.held result }
     {
-        self.held.take_image()
+        let Locked { held, keeper, .. } = self;
+        let was_waiting = held.take_image()?;
+        if was_waiting {
+            tell_image(keeper, held);
+        }
+        Ok(was_waiting)
+    }
+
+    /// Whether the keeper takes more.
+    pub fn goes_on(&self) -> bool
+        ensures { result ≡ K.is_going self.now.keeper }
+    {
+        self.keeper.goes_on()
     }
 
     /// A copy of the image that was taken last, if one was. Where none was, it takes no memory.
@@ -154,18 +226,19 @@ impl<L: Origin, A: Allocator + Clone> Locked<L, A> {
 
 /// A core under its lock.
 #[derive(Drop)]
-pub struct Shared<L: Origin, A: Allocator> {
-    pub(crate) lock: Mutex<Locked<L, A>>,
+pub struct Shared<L: Beginning<K>, A: Allocator, K: Keeper<A> + Drop> {
+    pub(crate) lock: Mutex<Locked<L, A, K>>,
 }
 
-impl<L: Origin, A: Allocator> Shared<L, A> {
+impl<L: Beginning<K>, A: Allocator, K: Keeper<A> + Drop> Shared<L, A, K> {
     /// A core under a lock, and the whole tally, whose amount is the number of calls that the log has. The
-    /// images go into the list, which is empty.
-    pub fn new(core: Core<A>, images: Vec<Image<A>, A>, blank: Blank) -> (Self, Tally<L>)
+    /// images go into the list, which is empty. The keeper has what the log has.
+    pub fn new(core: Core<A>, images: Vec<Image<A>, A>, blank: Blank, keeper: K) -> (Self, Tally<L>)
         requires name { blank.name ≡ L.name }
         requires parts { (blank.parts ≡ L.parts) × (0 < L.parts) }
         requires origin { IsFrom L.catalog L.opening core }
         requires empty { images.items ≡ [] }
+        requires kept { ∥ IfSome L.begun (λ b. K.Has b keeper core.log []) ∥₁ }
         ensures parts { result.1.part.parts ≡ L.parts }
         ensures amount { result.1.part.amount ≡ call_count core.log }
     {
@@ -173,24 +246,35 @@ impl<L: Origin, A: Allocator> Shared<L, A> {
         let (mut calls, mut part) = blank.open::<L>();
         let count = held.count_calls();
         calls.add(&mut part, count as u64);
-        let locked = Locked { held, calls };
+        let locked = Locked {
+            held,
+            calls,
+            keeper,
+        };
         let shared = Shared {
             lock: Mutex::new(locked),
         };
         (shared, Tally { part })
     }
 
-    /// The core and its images, by the whole tally. The log has as many calls as that says, each image is that
-    /// of its checkpoint in the log, and the core has the procedures and the opening that it was shared with.
-    pub fn close(self, all: Tally<L>) -> (Core<A>, Vec<Image<A>, A>)
+    /// The core, its images and the keeper, by the whole tally. The log has as many calls as that says, each image
+    /// is that of its checkpoint in the log, the core has the procedures and the opening that it was shared with,
+    /// and the keeper was told of the log and the images.
+    pub fn close(self, all: Tally<L>) -> (Core<A>, Vec<Image<A>, A>, K)
         requires { all.part.parts ≡ L.parts }
         ensures calls { call_count result.0.log ≡ all.part.amount }
         ensures cuts { AreCuts result.0 result.1.items }
         ensures origin { IsFrom L.catalog L.opening result.0 }
+        ensures kept { ∥ IfSome L.begun (λ b. K.Has b result.2 result.0.log result.1.items) ∥₁ }
     {
         let mut all = all;
-        let Locked { held, mut calls } = self.lock.into_inner();
+        let Locked {
+            held,
+            mut calls,
+            keeper,
+        } = self.lock.into_inner();
         calls.audit(&mut all.part);
-        held.into_parts()
+        let (core, images) = held.into_parts();
+        (core, images, keeper)
     }
 }

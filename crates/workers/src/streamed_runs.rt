@@ -12,8 +12,9 @@ ghost use denote.Param.Send.{IsSync};
 
 use crate::errors::StreamError;
 use crate::gates::Gate;
+use crate::keepers::{Beginning, Keeper, NoKeeper};
 use crate::runs::{Room, Script, Work, prepare, run_each};
-use crate::shared::{Origin, Shared, Tally};
+use crate::shared::{Shared, Tally};
 use crate::shares::Share;
 use crate::streams::{Streamed, drain_beside, stream_beside, stream_left};
 use image::{AssembleError, Image, Kind, assemble};
@@ -50,13 +51,14 @@ struct Ran<A: Allocator> {
 
 /// Runs the scripts in threads, while the caller drains.
 fn run_beside<
-    L: Origin + Send + Sync,
+    L: Beginning<K> + Send + Sync,
     A: Allocator + Clone + Send + Sync,
+    K: Keeper<A> + Drop + Send,
     R: Threads + Wait + Sync,
     G: Gate + Sync,
 >(
     rt: &R,
-    shared: &Shared<L, A>,
+    shared: &Shared<L, A, K>,
     works: Vec<Work<A>, A>,
     tally: Tally<L>,
     shares: Vec<Share<(), A>, A>,
@@ -84,7 +86,7 @@ fn run_beside<
 
 /// Runs the scripts and makes the checkpoint, which is ended alone where the turns ran out.
 fn stream_in<
-    L: Origin + Send + Sync,
+    L: Beginning<NoKeeper> + Send + Sync,
     A: Allocator + Clone + Send + Sync,
     R: Threads + Wait + Sync,
     G: Gate + Sync,
@@ -116,7 +118,7 @@ fn stream_in<
         parts: _,
     } = room;
     let (tap, drain) = ends;
-    let (shared, tally) = Shared::<L, A>::new(core, images, blank);
+    let (shared, tally) = Shared::<L, A, NoKeeper>::new(core, images, blank, NoKeeper);
     let lent = &shared;
     let ended = AtomicBool::new(false);
     let over = &ended;
@@ -129,7 +131,7 @@ fn stream_in<
     { run_beside(rt, lent, works, tally, shares, gate, drain, over, turns) };
     let ((mut tap, streamed), ((shares, tally), mut drain)) = thread::join(rt, sends, rest);
     let streamed = stream_left(rt, &shared, streamed, &mut tap, &mut drain, turns, gate);
-    let (core, _images) = shared.close(tally);
+    let (core, _images, _) = shared.close(tally);
     Ran {
         core,
         shares,

@@ -4,7 +4,8 @@ ghost use Rattle.pipe.specs.Rings.{SameDrain, SameTap};
 
 use crate::errors::CheckpointRefusal;
 use crate::gates::{Gate, Point};
-use crate::shared::{Origin, Shared};
+use crate::keepers::{Beginning, Keeper};
+use crate::shared::Shared;
 use image::Kind;
 use image::limits::ENTRIES;
 use phase::Phase;
@@ -37,9 +38,9 @@ enum Reached {
 const MOVES: usize = 4;
 
 /// Visits the places that the scan has left, at most this many. It stops where the ring is full.
-fn send_rest<L: Origin, A: Allocator + Clone, R: Wait, G: Gate>(
+fn send_rest<L: Beginning<K>, A: Allocator + Clone, K: Keeper<A> + Drop, R: Wait, G: Gate>(
     rt: &R,
-    shared: &Shared<L, A>,
+    shared: &Shared<L, A, K>,
     tap: &mut Tap<A>,
     places: usize,
     gate: &G,
@@ -58,9 +59,9 @@ fn send_rest<L: Origin, A: Allocator + Clone, R: Wait, G: Gate>(
 }
 
 /// Sends what the scan has left, and enters the next phase.
-fn move_on<L: Origin, A: Allocator + Clone, R: Wait, G: Gate>(
+fn move_on<L: Beginning<K>, A: Allocator + Clone, K: Keeper<A> + Drop, R: Wait, G: Gate>(
     rt: &R,
-    shared: &Shared<L, A>,
+    shared: &Shared<L, A, K>,
     tap: &mut Tap<A>,
     gate: &G,
 ) -> Result<Phase, CheckpointRefusal>
@@ -76,9 +77,9 @@ fn move_on<L: Origin, A: Allocator + Clone, R: Wait, G: Gate>(
 }
 
 /// Enters one phase after another.
-fn go_on<L: Origin, A: Allocator + Clone, R: Wait, G: Gate>(
+fn go_on<L: Beginning<K>, A: Allocator + Clone, K: Keeper<A> + Drop, R: Wait, G: Gate>(
     rt: &R,
-    shared: &Shared<L, A>,
+    shared: &Shared<L, A, K>,
     tap: &mut Tap<A>,
     gate: &G,
 ) -> Result<Reached, CheckpointRefusal>
@@ -97,9 +98,9 @@ fn go_on<L: Origin, A: Allocator + Clone, R: Wait, G: Gate>(
 }
 
 /// Brings a streamed checkpoint to its end, while another drains.
-fn stream<L: Origin, A: Allocator + Clone, R: Wait, G: Gate>(
+fn stream<L: Beginning<K>, A: Allocator + Clone, K: Keeper<A> + Drop, R: Wait, G: Gate>(
     rt: &R,
-    shared: &Shared<L, A>,
+    shared: &Shared<L, A, K>,
     tap: &mut Tap<A>,
     turns: u64,
     gate: &G,
@@ -117,9 +118,9 @@ fn stream<L: Origin, A: Allocator + Clone, R: Wait, G: Gate>(
 }
 
 /// Begins a streamed checkpoint and brings it to its end, while another drains. Without turns none begins.
-fn begin<L: Origin, A: Allocator + Clone, R: Wait, G: Gate>(
+fn begin<L: Beginning<K>, A: Allocator + Clone, K: Keeper<A> + Drop, R: Wait, G: Gate>(
     rt: &R,
-    shared: &Shared<L, A>,
+    shared: &Shared<L, A, K>,
     kind: Kind,
     tap: &mut Tap<A>,
     turns: u64,
@@ -139,9 +140,15 @@ fn begin<L: Origin, A: Allocator + Clone, R: Wait, G: Gate>(
 }
 
 /// Makes a streamed checkpoint, and then tells the end to the one who drains.
-pub(crate) fn stream_beside<L: Origin, A: Allocator + Clone, R: Wait, G: Gate>(
+pub(crate) fn stream_beside<
+    L: Beginning<K>,
+    A: Allocator + Clone,
+    K: Keeper<A> + Drop,
+    R: Wait,
+    G: Gate,
+>(
     rt: &R,
-    shared: &Shared<L, A>,
+    shared: &Shared<L, A, K>,
     kind: Kind,
     tap: Tap<A>,
     ended: &AtomicBool,
@@ -194,9 +201,9 @@ pub(crate) fn drain_beside<A: Allocator>(
 }
 
 /// Brings a streamed checkpoint to its end, and drains in between.
-fn stream_alone<L: Origin, A: Allocator + Clone, R: Wait, G: Gate>(
+fn stream_alone<L: Beginning<K>, A: Allocator + Clone, K: Keeper<A> + Drop, R: Wait, G: Gate>(
     rt: &R,
-    shared: &Shared<L, A>,
+    shared: &Shared<L, A, K>,
     tap: &mut Tap<A>,
     drain: &mut Drain<A>,
     turns: u64,
@@ -217,9 +224,15 @@ fn stream_alone<L: Origin, A: Allocator + Clone, R: Wait, G: Gate>(
 }
 
 /// Brings a checkpoint to its end for which no turn was left.
-pub(crate) fn stream_left<L: Origin, A: Allocator + Clone, R: Wait, G: Gate>(
+pub(crate) fn stream_left<
+    L: Beginning<K>,
+    A: Allocator + Clone,
+    K: Keeper<A> + Drop,
+    R: Wait,
+    G: Gate,
+>(
     rt: &R,
-    shared: &Shared<L, A>,
+    shared: &Shared<L, A, K>,
     streamed: Streamed,
     tap: &mut Tap<A>,
     drain: &mut Drain<A>,

@@ -84,7 +84,7 @@ impl<'a> Asked<'a> {
 /// The status of the program for words, and its standard error, over files of a runtime.
 pub(crate) fn performed_on<
     T: Threads + Wait + Sync,
-    R: Files + AllocGlobal,
+    R: Files + AllocGlobal + Sync,
     A: Allocator + Copy + Send + Sync,
 >(
     threads: &T,
@@ -95,7 +95,9 @@ pub(crate) fn performed_on<
     out: &mut Sink,
 ) -> (u8, Vec<u8, Global>)
 where
-    R::File: Drop,
+    R::File: Drop + Send,
+    R::Dir: Send,
+    R::A: Send,
 {
     let mut stdin = asked.stdin();
     let mut err = Sink::new(rt.alloc(), PLENTY, PLENTY);

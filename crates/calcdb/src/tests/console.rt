@@ -73,9 +73,11 @@ struct Console<'a, T, R> {
     rt: &'a R,
 }
 
-impl<T: Threads + Wait + Sync, R: Files + Abort + AllocGlobal> Console<'_, T, R>
+impl<T: Threads + Wait + Sync, R: Files + Abort + AllocGlobal + Sync> Console<'_, T, R>
 where
-    R::File: Drop,
+    R::File: Drop + Send,
+    R::Dir: Send,
+    R::A: Send,
 {
     /// The status of the program for the words of a line, and its standard error.
     fn performed<A: Allocator + Copy + Send + Sync>(
@@ -455,7 +457,9 @@ pub(crate) fn check_rows<R: Files + Abort + AllocGlobal + Threads + Wait + Sync>
     text: &str,
 ) -> Result<usize, Fail>
 where
-    R::File: Drop,
+    R::File: Drop + Send,
+    R::Dir: Send,
+    R::A: Send,
 {
     let console = Console { threads: rt, rt };
     let rows = rows_of(rt.alloc(), text)?;

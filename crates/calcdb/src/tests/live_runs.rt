@@ -17,8 +17,8 @@ use std::test::Fail;
 
 /// A log in memory that takes at most `most` bytes a call, and fails after `calls` calls.
 #[derive(Drop)]
-struct LogDevice {
-    bytes: Vec<u8, Global>,
+pub(crate) struct LogDevice {
+    pub(crate) bytes: Vec<u8, Global>,
     most: usize,
     calls: usize,
 }
@@ -309,7 +309,7 @@ calcdb run live/script --out live/none --live = 1|err calcdb: cannot write live/
 write live/wrong = step 0|stop 0 / calcdb run live/wrong --out live/kept --live = 1|out fault line 2|err calcdb: live/wrong line 2: no command \"stop\" / size live/kept/log = none
 calcdb run live/script --open live/script --out live/kept --live = 1|out refused not an image|err calcdb: live/script: not an image / size live/kept/log = none / size live/kept/0.img = none
 # options that don't go together
-misused calcdb run live/script --live = - / misused calcdb run live/script --out live/kept --sync = - / misused calcdb run live/script --out live/kept --live --threads = -
+misused calcdb run live/script --live = - / misused calcdb run live/script --out live/kept --sync = -
 starved calcdb run live/script --out live/kept --live = 1|err calcdb: no memory / size live/kept/log = none / remove live = -
 ";
 

@@ -51,7 +51,9 @@ fn names_in_use(rt: HostRuntime) -> Result<(), Fail> {
 /// The status of the program for these words.
 fn status_of<R: Files + AllocGlobal + Threads + Wait + Sync>(rt: &R, words: &[&str]) -> u8
 where
-    R::File: Drop,
+    R::File: Drop + Send,
+    R::Dir: Send,
+    R::A: Send,
 {
     let mut out = Sink::new(rt.alloc(), PLENTY, PLENTY);
     let mut err = Sink::new(rt.alloc(), PLENTY, PLENTY);
@@ -72,7 +74,9 @@ where
 /// Where what is written has no name; and where it has one, but no script is there.
 fn statuses<R: Files + AllocGlobal + Threads + Wait + Sync>(rt: &R) -> [u8; 5]
 where
-    R::File: Drop,
+    R::File: Drop + Send,
+    R::Dir: Send,
+    R::A: Send,
 {
     [
         status_of(rt, &["calcdb", "load", "none", ""]),

@@ -56,7 +56,9 @@ fn started<R: Files + AllocGlobal + Threads + Wait + Sync, A: Allocator + Copy +
     words: Words<'_>,
 ) -> (u8, Vec<u8, Global>, Vec<u8, Global>)
 where
-    R::File: Drop,
+    R::File: Drop + Send,
+    R::Dir: Send,
+    R::A: Send,
 {
     let mut out = Sink::new(rt.alloc(), PLENTY, PLENTY);
     let mut err = Sink::new(rt.alloc(), PLENTY, PLENTY);
@@ -76,7 +78,9 @@ fn starts<R: Files + AllocGlobal + Threads + Wait + Sync>(
     (status, out, err): (u8, &str, &str),
 ) -> bool
 where
-    R::File: Drop,
+    R::File: Drop + Send,
+    R::Dir: Send,
+    R::A: Send,
 {
     let (ended, printed, said) = started(heap, rt, Words { words, heap });
     ended == status && printed.as_slice() == out.as_bytes() && said.as_slice() == err.as_bytes()
@@ -99,7 +103,9 @@ fn count_growths<R: Files + AllocGlobal + Threads + Wait + Sync>(
     heap: &Fallible<Global>,
 ) -> Option<u64>
 where
-    R::File: Drop,
+    R::File: Drop + Send,
+    R::Dir: Send,
+    R::A: Send,
 {
     let mut begun = false;
     for refused in 1..MOST {

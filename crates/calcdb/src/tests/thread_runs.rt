@@ -1,12 +1,15 @@
 //! Runs in threads: what they write, the files that they leave, and each growth refused in turn.
 
 use crate::faults::Fault;
+use crate::journals::{NoJournal, Stop};
 use crate::tests::console::check_rows;
 use crate::tests::devices::{PLENTY, Sink, Source};
 use crate::tests::fixtures::opening_of;
 use crate::tests::growths::{EVERY, Fallible, MOST};
 use crate::threads::run_threads;
-use std::alloc::Global;
+use image::Image;
+use std::alloc::{Allocator, Global};
+use std::io::{Read, Write};
 use std::sync::Wait;
 use std::test::Fail;
 use std::thread::Threads;
@@ -61,7 +64,7 @@ fn files_of_runs(rt: HostRuntime) -> Result<(), Fail> {
     Ok(())
 }
 
-const SCRIPT: &str =
+pub(crate) const SCRIPT: &str =
     "proc set 2\nput $0 $1\nend\ncall 0 1 set 'a #1\ncall 1 1 set 'b #1\ncheckpoint full\ncheckpoint partial\nview 'a\nview 'z\n";
 
 /// How a run in threads ends.
@@ -91,6 +94,25 @@ fn ending_of(written: &[u8], fault: Option<Fault>) -> Ending {
     }
 }
 
+/// The fault of a run in threads, if it is stopped by one.
+fn fault_of<T: Threads + Wait + Sync, I: Read, O: Write, A: Allocator + Copy + Send + Sync>(
+    rt: &T,
+    alloc: A,
+    source: &mut I,
+    sink: &mut O,
+    opening: Image<A>,
+) -> Option<Fault> {
+    let ran = run_threads(rt, alloc, &(), NoJournal, source, sink, opening, &Open);
+    match ran {
+        Ok((ran, _)) => {
+            drop(ran);
+            None
+        }
+        Err(Stop::Fault(fault)) => Some(fault),
+        Err(Stop::Journal(never)) => match never {},
+    }
+}
+
 fn ended<T: Threads + Wait + Sync>(
     rt: &T,
     global: Global,
@@ -102,7 +124,7 @@ fn ended<T: Threads + Wait + Sync>(
     let mut source = Source::new(SCRIPT.as_bytes(), PLENTY, PLENTY);
     let mut sink = Sink::new(global, PLENTY, PLENTY);
     heap.arm(refused);
-    let fault = run_threads(rt, heap, &mut source, &mut sink, opening, &Open).err();
+    let fault = fault_of(rt, heap, &mut source, &mut sink, opening);
     Ok(ending_of(sink.kept.as_slice(), fault))
 }
 

@@ -9,6 +9,9 @@ run_plan-requires-send-J g c κs within = param_send 0 _ c.type_bounds.send-J
 pub run_plan-requires-send-A : goal.run_plan-requires-send-A
 run_plan-requires-send-A g c κs within = copied_send 3 _ c.type_bounds.send-A
 
+pub run_plan-requires-send-K : goal.run_plan-requires-send-K
+run_plan-requires-send-K g c κs within = param_send 5 _ c.type_bounds.send-K
+
 pub run_plan-requires-sync-J : goal.run_plan-requires-sync-J
 run_plan-requires-sync-J g c κs within = param_sync 0 _ c.type_bounds.sync-J
 

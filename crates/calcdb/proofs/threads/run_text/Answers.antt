@@ -3,14 +3,14 @@ use Rattle.calcdb.specs.ThreadOutcomes.{EndsInThreads}
 use Rattle.calcdb.specs.Scripts.{thread_script_of}
 use Rattle.calcdb.proofs.FailedReads.{in_threads, refusing_script}
 use Rattle.calcdb.proofs.ThreadEnds.{ok_with}
-use Rattle.calcdb.proofs.ThreadEndings.{ends_run, ends_script}
+use Rattle.calcdb.proofs.ThreadEndings.{ends_run, ends_script, stops_if_fault, stops_so}
 use Rattle.calcdb.proofs.TextReadings.{read_as, refused_as}
 use Rattle.calcdb.proofs.threads.run_text.Goals as goal
 
 pub returns-in-Ok-clause-run : goal.returns-in-Ok-clause-run
 returns-in-Ok-clause-run g c =
     let reads = read_as thread_script_of c.args.text.items c.as_slice.result.now c.read_thread_script-read.result c.in-Ok.script c.as_slice.ensures.value c.in-Ok.is c.read_thread_script-read.ensures in
-    ok_with c.run_opened.result _ _ _ (λ r h from. (h.0, record { lawful = c.requires; script = c.in-Ok.script; reads = reads; origin = from; runs = h.1 }, h.2))
+    ok_with c.run_opened.result _ _ _ (λ r h from. record { lawful = c.requires; script = c.in-Ok.script; reads = reads; origin = from; writes = h })
     c.run_opened.ensures.ok c.run_opened.ensures.origin
 
 pub returns-in-Ok-clause-fault : goal.returns-in-Ok-clause-fault
@@ -18,8 +18,9 @@ returns-in-Ok-clause-fault g c =
     let reads = read_as thread_script_of c.args.text.items c.as_slice.result.now c.read_thread_script-read.result c.in-Ok.script c.as_slice.ensures.value c.in-Ok.is c.read_thread_script-read.ensures in
     let old = g.W.Write.contents c.args.writer.now in
     let new = g.W.Write.contents c.run_opened.new.writer in
-    IfErr-weaker c.run_opened.result _ (λ f. EndsInThreads (thread_script_of c.args.text.items) c.args.opening old new f)
-    (λ f h. ends_run (thread_script_of c.args.text.items) c.args.opening old new c.in-Ok.script f c.requires reads h) c.run_opened.ensures.err
+    IfErr-weaker c.run_opened.result _ _
+    (λ s h. stops_so _ (EndsInThreads (thread_script_of c.args.text.items) c.args.opening old new) s (λ f h. ends_run (thread_script_of c.args.text.items) c.args.opening old new c.in-Ok.script f c.requires reads h) (λ u. u) h)
+    c.run_opened.ensures.err
 
 pub returns-in-Err-clause-fault : goal.returns-in-Err-clause-fault
 returns-in-Err-clause-fault g c =
@@ -30,7 +31,7 @@ returns-in-Err-clause-fault g c =
 pub returns-in-Ok-clause-unread : goal.returns-in-Ok-clause-unread
 returns-in-Ok-clause-unread g c =
     IfErr-weaker c.run_opened.result _ _
-    (λ f h. in_threads (g.W.Write.contents c.args.writer.now) (g.W.Write.contents c.run_opened.new.writer) f _ _ h) c.run_opened.ensures.err
+    (λ s h. stops_if_fault _ _ _ s (λ f h. in_threads (g.W.Write.contents c.args.writer.now) (g.W.Write.contents c.run_opened.new.writer) f _ _ h) h) c.run_opened.ensures.err
 
 pub returns-in-Err-clause-unread : goal.returns-in-Err-clause-unread
 returns-in-Err-clause-unread g c =

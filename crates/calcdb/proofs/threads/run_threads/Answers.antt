@@ -1,4 +1,7 @@
-use Rattle.std.proofs.Common.{inl, inr, refl, sym, ◌∙◌, subst}
+use Rattle.std.proofs.Common.{inl, inr, refl, sym, ◌∙◌, subst, []}
+use Rattle.std.specs.Prelude.{is_none}
+use Rattle.std.specs.Io.KnownBytes.{Appends}
+use Rattle.calcdb.specs.ThreadRuns.{StopsWith}
 use Rattle.std.proofs.lemmas.Result.{IfErr-weaker, IfOk-weaker}
 use Rattle.calcdb.specs.ThreadOutcomes.{EndsInThreads, RunsToEnd}
 use Rattle.calcdb.specs.Scripts.{thread_script_of}
@@ -16,8 +19,8 @@ pub returns-clause-run : goal.returns-clause-run
 returns-clause-run g c =
     IfOk-weaker c.run_text.result _ _
     (λ r h source known.
-    let same = same_reading thread_script_of (long_scripts thread_command_of) (g.R.Read.remaining c.args.reader.now) (g.R.Read.remaining c.read_past.new.reader) source c.in-Ok.text.items known c.in-Ok.ensures.read c.in-Ok.ensures.end in
-    (h.0, subst (λ says. RunsToEnd says c.args.opening r.core r.images.items h.0) (sym same) h.1, h.2))
+    let same = same_reading thread_script_of (long_scripts thread_command_of) (g.I.Read.remaining c.args.reader.now) (g.I.Read.remaining c.read_past.new.reader) source c.in-Ok.text.items known c.in-Ok.ensures.read c.in-Ok.ensures.end in
+    subst (λ says. RunsToEnd (is_none r.1.failure) says c.args.opening r.0.core r.0.images.items (g.W.Write.contents c.args.writer.now) (g.W.Write.contents c.run_text.new.writer)) (sym same) h)
     c.run_text.ensures.run
 
 pub returns-clause-fault : goal.returns-clause-fault
@@ -26,6 +29,6 @@ returns-clause-fault g c =
     let new = g.W.Write.contents c.run_text.new.writer in
     IfErr-weaker c.run_text.result _ _
     (λ f h source known.
-    let same = same_reading thread_script_of (long_scripts thread_command_of) (g.R.Read.remaining c.args.reader.now) (g.R.Read.remaining c.read_past.new.reader) source c.in-Ok.text.items known c.in-Ok.ensures.read c.in-Ok.ensures.end in
-    subst (λ says. EndsInThreads says c.args.opening old new f) (sym same) h)
+    let same = same_reading thread_script_of (long_scripts thread_command_of) (g.I.Read.remaining c.args.reader.now) (g.I.Read.remaining c.read_past.new.reader) source c.in-Ok.text.items known c.in-Ok.ensures.read c.in-Ok.ensures.end in
+    subst (λ says. StopsWith (EndsInThreads says c.args.opening old new) (Appends old new []) f) (sym same) h)
     c.run_text.ensures.fault

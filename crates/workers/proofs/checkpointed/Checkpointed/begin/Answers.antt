@@ -29,6 +29,14 @@ returns-clause-calls g c =
     let h : BeginsAs old new c.args.session c.args.number c.args.procedure (map (λ b. b.items) c.args.args.items) c.begin.result = record { begun = e.begun; refused = e.refused; refusal = e.refusal } in
     count_keeps old new (begins old new c.args.session c.args.number c.args.procedure (map (λ b. b.items) c.args.args.items) c.begin.result h) ∙ ap (λ (v : Checkpointed). call_count v.core.log) c.self.view_is
 
+pub returns-clause-log : goal.returns-clause-log
+returns-clause-log g c =
+    let e = c.begin.ensures in
+    let old = c.self.inside.core in
+    let new = c.begin.new.self in
+    let h : BeginsAs old new c.args.session c.args.number c.args.procedure (map (λ b. b.items) c.args.args.items) c.begin.result = record { begun = e.begun; refused = e.refused; refusal = e.refusal } in
+    (begins old new c.args.session c.args.number c.args.procedure (map (λ b. b.items) c.args.args.items) c.begin.result h).log ∙ ap (λ (v : Checkpointed). v.core.log) c.self.view_is
+
 pub returns-clause-origin : goal.returns-clause-origin
 returns-clause-origin g c =
     let e = c.begin.ensures in

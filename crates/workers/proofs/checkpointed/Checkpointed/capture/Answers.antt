@@ -29,6 +29,14 @@ returns-clause-calls g c =
     let h : VisitsAs old new c.capture.result = record { captured = e.captured; refused = e.refused; refusal = e.refusal } in
     count_keeps old new (visits old new c.capture.result h) ∙ ap (λ (v : Checkpointed). call_count v.core.log) c.self.view_is
 
+pub returns-clause-log : goal.returns-clause-log
+returns-clause-log g c =
+    let e = c.capture.ensures in
+    let old = c.self.inside.core in
+    let new = c.capture.new.self in
+    let h : VisitsAs old new c.capture.result = record { captured = e.captured; refused = e.refused; refusal = e.refusal } in
+    (visits old new c.capture.result h).log ∙ ap (λ (v : Checkpointed). v.core.log) c.self.view_is
+
 pub returns-clause-origin : goal.returns-clause-origin
 returns-clause-origin g c =
     let e = c.capture.ensures in

@@ -29,6 +29,14 @@ returns-clause-calls g c =
     let h : SendsAs old new c.args.tap.now c.capture_to.new.tap c.capture_to.result = record { captured = e.captured; sent = e.sent; refused = e.refused; refusal = e.refusal } in
     count_keeps old new (sends old new c.args.tap.now c.capture_to.new.tap c.capture_to.result h) ∙ ap (λ (v : Checkpointed). call_count v.core.log) c.self.view_is
 
+pub returns-clause-log : goal.returns-clause-log
+returns-clause-log g c =
+    let e = c.capture_to.ensures in
+    let old = c.self.inside.core in
+    let new = c.capture_to.new.self in
+    let h : SendsAs old new c.args.tap.now c.capture_to.new.tap c.capture_to.result = record { captured = e.captured; sent = e.sent; refused = e.refused; refusal = e.refusal } in
+    (sends old new c.args.tap.now c.capture_to.new.tap c.capture_to.result h).log ∙ ap (λ (v : Checkpointed). v.core.log) c.self.view_is
+
 pub returns-clause-origin : goal.returns-clause-origin
 returns-clause-origin g c =
     let e = c.capture_to.ensures in

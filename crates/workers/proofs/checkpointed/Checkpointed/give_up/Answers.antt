@@ -29,6 +29,14 @@ returns-clause-calls g c =
     let h : GivesUpAs old new c.args.session c.give_up.result = record { given_up = e.given_up; refused = e.refused; active = e.active } in
     count_keeps old new (gives_up old new c.args.session c.give_up.result h) ∙ ap (λ (v : Checkpointed). call_count v.core.log) c.self.view_is
 
+pub returns-clause-log : goal.returns-clause-log
+returns-clause-log g c =
+    let e = c.give_up.ensures in
+    let old = c.self.inside.core in
+    let new = c.give_up.new.self in
+    let h : GivesUpAs old new c.args.session c.give_up.result = record { given_up = e.given_up; refused = e.refused; active = e.active } in
+    (gives_up old new c.args.session c.give_up.result h).log ∙ ap (λ (v : Checkpointed). v.core.log) c.self.view_is
+
 pub returns-clause-origin : goal.returns-clause-origin
 returns-clause-origin g c =
     let e = c.give_up.ensures in

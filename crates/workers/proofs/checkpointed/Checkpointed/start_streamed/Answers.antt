@@ -1,6 +1,6 @@
 use Rattle.std.proofs.Common.{ap, ◌∙◌, subst, add-zero}
 use Rattle.workers.specs.Streams.{StreamsAs}
-use Rattle.workers.specs.Checkpointed.{Checkpointed, KeepsOrigin, call_count}
+use Rattle.workers.specs.Checkpointed.{Checkpointed, GoesOn, KeepsOrigin, call_count}
 use Rattle.workers.proofs.CoreGrowth.{streams}
 use Rattle.workers.proofs.Growth.{count_grows, cuts_grow, origin_grows}
 use Rattle.workers.proofs.checkpointed.Checkpointed.start_streamed.Goals as goal
@@ -28,6 +28,15 @@ returns-clause-calls g c =
     let new = c.start_streamed.new.self in
     let h : StreamsAs old new c.args.kind c.start_streamed.result = record { started = e.started; number = e.number; refused = e.refused; refusal = e.refusal } in
     count_grows old new 0 (streams old new c.args.kind c.start_streamed.result h) ∙ (add-zero (call_count old.log) ∙ ap (λ (v : Checkpointed). call_count v.core.log) c.self.view_is)
+
+pub returns-clause-log : goal.returns-clause-log
+returns-clause-log g c =
+    let e = c.start_streamed.ensures in
+    let old = c.self.inside.core in
+    let new = c.start_streamed.new.self in
+    let h : StreamsAs old new c.args.kind c.start_streamed.result = record { started = e.started; number = e.number; refused = e.refused; refusal = e.refusal } in
+    let grown = streams old new c.args.kind c.start_streamed.result h in
+    subst (λ (v : Checkpointed). GoesOn v.core.log new.log) c.self.view_is (grown.more, grown.log)
 
 pub returns-clause-origin : goal.returns-clause-origin
 returns-clause-origin g c =

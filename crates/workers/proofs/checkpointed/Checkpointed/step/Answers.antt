@@ -29,6 +29,14 @@ returns-clause-calls g c =
     let h : StepsAs old new c.args.session c.step.result = record { stepped = e.stepped; ready = e.ready; refused = e.refused; refusal = e.refusal } in
     count_keeps old new (steps old new c.args.session c.step.result h) ∙ ap (λ (v : Checkpointed). call_count v.core.log) c.self.view_is
 
+pub returns-clause-log : goal.returns-clause-log
+returns-clause-log g c =
+    let e = c.step.ensures in
+    let old = c.self.inside.core in
+    let new = c.step.new.self in
+    let h : StepsAs old new c.args.session c.step.result = record { stepped = e.stepped; ready = e.ready; refused = e.refused; refusal = e.refusal } in
+    (steps old new c.args.session c.step.result h).log ∙ ap (λ (v : Checkpointed). v.core.log) c.self.view_is
+
 pub returns-clause-origin : goal.returns-clause-origin
 returns-clause-origin g c =
     let e = c.step.ensures in
