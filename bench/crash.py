@@ -1,10 +1,11 @@
 #!/usr/bin/env python3
-"""Kills runs that are kept up: bench/crash.py PROGRAM [--times N] [--sync].
+"""Kills runs that are kept up: bench/crash.py PROGRAM [--times N] [--sync] [--threads].
 
 It runs a script of calls and checkpoints with --live, kills the program by SIGKILL after a random time, and looks at
 what was printed and at what is in the folder: each answer that was printed is that of the call which stands at its
-place in the log, and every chain of the images recovers with the log to one table. It does so 200 times, prints how
-far the runs came, and ends with status 1 at the first one that lost something.
+place in the log, the calls of each session in the log are its first ones, and every chain of the images recovers with
+the log to one table. It does so 200 times, prints how far the runs came, and ends with status 1 at the first one that
+lost something. With --threads each session has a thread, and nothing is printed before the end.
 """
 
 import argparse
@@ -19,16 +20,19 @@ SESSIONS, KEYS, CALLS, EVERY = 8, 500, 60_000, 5_000
 PROCEDURE = ["proc add 2", "read r0 $0", "add r1 r0 $1", "put $0 r1", "end"]
 
 
-def commands():
+def commands(in_threads):
     """Each command, and for a call its session and number."""
     for key in range(KEYS):
         yield f"call {key % SESSIONS} {key // SESSIONS + 1} set 'k{key} #0", (key % SESSIONS, key // SESSIONS + 1)
     for call in range(KEYS, CALLS):
-        if call % EVERY == 0:
-            # Each third checkpoint is full.
-            yield f"start {'full' if call // EVERY % 3 == 1 else 'partial'}", None
+        # Each third checkpoint is full.
+        kind = "full" if call // EVERY % 3 == 1 else "partial"
+        if call % EVERY == 0 and in_threads:
+            yield f"checkpoint {kind}", None
+        elif call % EVERY == 0:
+            yield f"start {kind}", None
             yield "advance", None
-        if call % EVERY == 20:
+        if call % EVERY == 20 and not in_threads:
             for command in ("advance", "scan", "advance", "image", "advance"):
                 yield command, None
         session, number = call % SESSIONS, call // SESSIONS + 1
@@ -93,12 +97,17 @@ def recovered(program, script, folder, chain):
     return table.read_bytes()
 
 
-def check(program, script, made, folder, printed):
+def check(program, script, made, folder, printed, in_threads):
     """How many answers were printed, how many records the log has beside, and how many chains agree."""
-    places, log = answered(printed, made), logged(program, folder)
+    places, log = {} if in_threads else answered(printed, made), logged(program, folder)
     for place, call in places.items():
         if log.get(place) != call:
             sys.exit(f"{folder}: the answer at place {place} is lost")
+    for session in range(SESSIONS):
+        numbers = [number for of, number in (log[place] for place in sorted(log)) if of == session]
+        wanted = [number for of, number in (call for _, call in made if call is not None) if of == session]
+        if numbers != wanted[: len(numbers)]:
+            sys.exit(f"{folder}: the log lacks a call of session {session} before another one")
     if not log:
         return len(places), 0, 0
     tables = [recovered(program, script, folder, chain) for chain in chains(program, folder)]
@@ -112,9 +121,10 @@ def main():
     words.add_argument("program", type=Path)
     words.add_argument("--times", type=int, default=200)
     words.add_argument("--sync", action="store_true")
+    words.add_argument("--threads", action="store_true")
     given = words.parse_args()
-    program, made = given.program.resolve(), list(commands())
-    options = ["--sync"] if given.sync else []
+    program, made = given.program.resolve(), list(commands(given.threads))
+    options = [f"--{name}" for name in ("sync", "threads") if getattr(given, name)]
     with tempfile.TemporaryDirectory(prefix="calcdb-crash-") as top:
         script = Path(top) / "script"
         script.write_text(script_of(made))
@@ -127,7 +137,7 @@ def main():
             folder = Path(top) / str(time_of)
             folder.mkdir()
             printed, had_ended = killed(program, script, folder, random.uniform(0, whole), options)
-            found = check(program, script, made, folder, printed)
+            found = check(program, script, made, folder, printed, given.threads)
             answers, more, agreed, ended = answers + found[0], more + found[1], agreed + found[2], ended + had_ended
             subprocess.run(["rm", "-r", folder], check=True)
     print(f"{given.times} runs, {given.times - ended} killed: {answers:,} answers, each in its log, {more:,} calls more; {agreed:,} chains")

@@ -15,13 +15,13 @@ use Rattle.image.specs.Images.{Image}
 use Rattle.image.specs.Merges.{last_of, table_of}
 use Rattle.image.specs.declared.images.Kind.{Kind}
 use Rattle.image.specs.declared.images.Kind.TheVariants.{Full, Partial}
-use Rattle.replay.specs.Promises.{FromImages, FrontsAreRead, IsChainOf, IsFrontOf, IsHistory, IsImageOf}
+use Rattle.replay.specs.Promises.{FrontsAreRead, IsChainOf, IsHistory, IsImageOf}
 use Rattle.replay.specs.Promises as recovering
 use Rattle.replay.specs.Recovery.{Recovery}
 use Rattle.replay.specs.declared.errors.RecoverError.{RecoverError}
 use Rattle.replay.specs.declared.errors.RecoverError.TheVariants as refused
 use Rattle.steps.specs.CoreViews.{CoreView, table_now}
-use Rattle.steps.specs.CutImages.{AllTaken, IsTaken}
+use Rattle.steps.specs.CutImages.{AllTaken}
 use Rattle.steps.specs.CutImages as taking
 use Rattle.calcdb.specs.OwnFiles.{AreItsImages, AreRecovered, GivesTableNow, HasHistory}
 

@@ -1,5 +1,6 @@
 -- What reads nothing doesn't end at a read that failed.
-use Rattle.std.proofs.Common.{◌≢◌, ◌⊎◌, inl, inr, ℕ, List, Option, Err, sym, subst, ◌∙◌}
+use Rattle.std.proofs.Common.{◌≡◌, ◌≢◌, ◌⊎◌, inl, inr, [], ℕ, Option, Err, sym, subst, ◌∙◌}
+use Rattle.std.specs.Io.KnownBytes.{Appends}
 use Rattle.procedure.specs.Bytes.{Bytes}
 use Rattle.image.specs.Images.{Image}
 use Rattle.calcdb.specs.Journals.{IfFault, IsUnopened, StopsKept, Taken}
@@ -7,7 +8,6 @@ use Rattle.calcdb.specs.Outcomes.{Refuses, RefusesScript}
 use Rattle.calcdb.specs.Refusing.{Declines, FailsText, text_fault}
 use Rattle.calcdb.specs.Runs.{Sent}
 use Rattle.calcdb.specs.Scripts.{Schedule}
-use Rattle.calcdb.specs.ThreadRuns.{StopsInThreads}
 use Rattle.calcdb.specs.declared.faults.Fault.{Fault}
 use Rattle.calcdb.specs.declared.faults.Fault.TheVariants as fault
 use Rattle.calcdb.specs.declared.faults.Reason.TheVariants.{NoView}
@@ -34,11 +34,10 @@ module _ (old new : Option Bytes) where
   refusing_script script.Size r h = refusing fault.Size r h
   refusing_script script.NoMemory r (is, out) = λ e. absurd (cc)
 
-  -- a run in threads
-  pub in_threads : (f : Fault) (count : ℕ) (keys : List Bytes) → Refuses (fault.Refused NoView) old new f ⊎ StopsInThreads count keys old new f → f ≢ fault.Read
-  in_threads f count keys (inl h) = refusing (fault.Refused NoView) f h
-  in_threads f count keys (inr (inl (is, out))) = λ e. absurd (cc)
-  in_threads f count keys (inr (inr (core, images, front, left, parts, text, runs, sent))) = sending f text sent
+  -- a run in threads that isn't carried out
+  pub in_threads : (f : Fault) → Refuses (fault.Refused NoView) old new f ⊎ ((f ≡ fault.NoMemory) × Appends old new []) → f ≢ fault.Read
+  in_threads f (inl h) = refusing (fault.Refused NoView) f h
+  in_threads f (inr (is, out)) = λ e. absurd (cc)
 
   not_read : (text : Bytes) → FailsText text old new fault.Read → ⊥
   not_read text (is, out) = absurd (cc)

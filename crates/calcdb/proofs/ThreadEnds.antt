@@ -1,7 +1,8 @@
 -- What a run in threads comes to.
-use Rattle.std.proofs.Common.{◌≡◌, ◌⊎◌, inr, ℕ, ◌+◌, ◌<◌, List, [], ◌∷◌, ◌++◌, length, take, drop, get_or, Option, Result, Ok, Err, refl, sym, ap, subst, ◌∙◌, append_assoc}
+use Rattle.std.proofs.Common.{◌≡◌, ℕ, Bool, true, false, ◌+◌, ◌<◌, List, [], ◌∷◌, ◌++◌, length, take, drop, get_or, Option, Result, Ok, Err, refl, sym, ap, subst, ◌∙◌, append_assoc}
 use Rattle.std.specs.Io.KnownBytes.{Appends}
-use Rattle.std.specs.Prelude.{IfOk}
+use Rattle.std.specs.Prelude.{IfErr, IfOk, OnOk}
+use Rattle.std.proofs.KnownBytes.{Appends-nil}
 use Rattle.std.proofs.lemmas.List.{append-nil, take-append-drop}
 use base.Growing.{prefix_trans}
 use mathlib.Core.List.{IsPrefix}
@@ -9,13 +10,10 @@ use Rattle.procedure.specs.Bytes.{Bytes}
 use Rattle.image.specs.Images.{Image}
 use Rattle.steps.specs.CoreViews.{CoreView}
 use Rattle.workers.specs.Checkpointed.{AreCuts, call_count}
-use Rattle.calcdb.specs.Outcomes.{Refuses}
 use Rattle.calcdb.specs.Runs.{Sent}
-use Rattle.calcdb.specs.declared.faults.Reason.TheVariants.{NoView}
-use Rattle.calcdb.specs.ThreadRuns.{IsFound, RunsInThreads, ShowsEach, StopsInThreads, run_text, view_text}
+use Rattle.calcdb.specs.ThreadRuns.{IsFound, RunsInThreads, ShowsEach, StopsInThreads, Writes, WritesRun, run_text, view_text}
 use Rattle.calcdb.specs.declared.looking.Found.{Found}
 use Rattle.calcdb.specs.declared.faults.Fault.{Fault}
-use Rattle.calcdb.specs.declared.faults.Fault.TheVariants as fault
 use Rattle.calcdb.proofs.CarryingOn.{sent_after}
 use Rattle.calcdb.proofs.Printed.{next_is}
 
@@ -44,42 +42,49 @@ shows_keys told seen keys slice text p same h = subst (λ (ks : List Bytes). Sho
 
 module _ (count : ℕ) (keys : List Bytes) (core : CoreView) (images : List Image) (cuts : AreCuts core images) where
   -- the lines of the run aren't all written
-  pub stops_before : (old new : Option Bytes) (f : Fault) → Sent (Err f) old new (run_text count (call_count core.log) (length images) (Ok tt)) → StopsInThreads count keys old new f
-  stops_before old new f sent =
-      inr (
-        core,
-        images,
-        [],
-        keys,
-        refl,
-        run_text count (call_count core.log) (length images) (Ok tt) ++ [],
-        record { cuts = cuts; told = []; views = []; shows = refl; parts = refl },
-        subst (λ (t : Bytes). Sent (Err f) old new t) (sym (append-nil (run_text count (call_count core.log) (length images) (Ok tt)))) sent,
-      )
+  pub stops_before : (old new : Option Bytes) (f : Fault) → Sent (Err f) old new (run_text count (call_count core.log) (length images) (Ok tt)) → StopsInThreads count keys core images old new f
+  stops_before old new f sent = (
+    [],
+    keys,
+    refl,
+    run_text count (call_count core.log) (length images) (Ok tt) ++ [],
+    record { cuts = cuts; told = []; views = []; shows = refl; parts = refl },
+    subst (λ (t : Bytes). Sent (Err f) old new t) (sym (append-nil (run_text count (call_count core.log) (length images) (Ok tt)))) sent,
+  )
 
   -- the lines of the keys aren't
   pub stops_keys : (old mid new : Option Bytes) (f : Fault) (told seen : List Image) (slice : List Bytes) → IsPrefix told seen → slice ≡ keys →
       Appends old mid (run_text count (call_count core.log) (length images) (Ok tt)) →
-      (front left : List Bytes) × (slice ≡ front ++ left) × (text : Bytes) × ShowsEach seen front text × Sent (Err f) mid new text → StopsInThreads count keys old new f
-  stops_keys old mid new f told seen slice p same before (front, left, parts, text, shows, sent) =
-      inr (
-        core,
-        images,
-        front,
-        left,
-        sym same ∙ parts,
-        run_text count (call_count core.log) (length images) (Ok tt) ++ text,
-        record { cuts = cuts; told = told; views = text; shows = shows_less told seen front text p shows; parts = refl },
-        sent_after f old mid new (run_text count (call_count core.log) (length images) (Ok tt)) text before sent,
-      )
+      (front left : List Bytes) × (slice ≡ front ++ left) × (text : Bytes) × ShowsEach seen front text × Sent (Err f) mid new text → StopsInThreads count keys core images old new f
+  stops_keys old mid new f told seen slice p same before (front, left, parts, text, shows, sent) = (
+    front,
+    left,
+    sym same ∙ parts,
+    run_text count (call_count core.log) (length images) (Ok tt) ++ text,
+    record { cuts = cuts; told = told; views = text; shows = shows_less told seen front text p shows; parts = refl },
+    sent_after f old mid new (run_text count (call_count core.log) (length images) (Ok tt)) text before sent,
+  )
 
 -- two clauses of a result, as one
 pub ok_with : {X E : Type 0} (r : Result X E) (P Q R : X → Type 0) → ((x : X) → P x → Q x → R x) → IfOk r P → IfOk r Q → IfOk r R
 ok_with (Ok x) P Q R join p q = join x p q
 ok_with (Err e) P Q R join p q = tt
 
-module _ (n m : ℕ) (ks js : List Bytes) where
-  -- in the words of the script
-  pub same_stops : (old new : Option Bytes) (f : Fault) → n ≡ m → ks ≡ js → Refuses (fault.Refused NoView) old new f ⊎ StopsInThreads n ks old new f → Refuses (fault.Refused NoView) old new f ⊎ StopsInThreads m js old new f
-  same_stops old new f count keys h =
-      subst (λ (k : ℕ). Refuses (fault.Refused NoView) old new f ⊎ StopsInThreads k js old new f) count (subst (λ (l : List Bytes). Refuses (fault.Refused NoView) old new f ⊎ StopsInThreads n l old new f) keys h)
+-- in the words of the script
+pub same_writes : (b : Bool) (n m : ℕ) (ks js : List Bytes) (core : CoreView) (images : List Image) (old new : Option Bytes) (r : Result (Unit {0}) Fault) → n ≡ m → ks ≡ js → Writes b n ks core images old new r → Writes b m js core images old new r
+same_writes b n m ks js core images old new r count keys h = subst (λ (k : ℕ). Writes b k js core images old new r) count (subst (λ (l : List Bytes). Writes b n l core images old new r) keys h)
+
+-- what was written of a run whose keeper goes on
+pub writes_going : (b : Bool) (count : ℕ) (ks js : List Bytes) (core : CoreView) (images : List Image) (old new : Option Bytes) (r : Result (Unit {0}) Fault) → b ≡ true → js ≡ ks →
+    OnOk r ((text : Bytes) × RunsInThreads count js core images text × Appends old new text) → IfErr r (StopsInThreads count js core images old new) → Writes b count ks core images old new r
+writes_going b count ks js core images old new (Ok x) going same ok err =
+    subst (λ (e : Bool). WritesRun e count ks core images old new) (sym going) (subst (λ (l : List Bytes). WritesRun true count l core images old new) same ok)
+writes_going b count ks js core images old new (Err f) going same ok err = (going, subst (λ (l : List Bytes). StopsInThreads count l core images old new f) same err)
+
+-- and of one whose keeper has failed
+pub writes_nothing : (b : Bool) (count : ℕ) (ks : List Bytes) (core : CoreView) (images : List Image) (old : Option Bytes) → b ≡ false → AreCuts core images → Writes b count ks core images old old (Ok tt)
+writes_nothing b count ks core images old failed cuts = subst (λ (e : Bool). WritesRun e count ks core images old old) (sym failed) (cuts, Appends-nil old)
+
+-- nothing went out
+pub nothing_more : (old new : Option Bytes) → new ≡ old → Appends old new []
+nothing_more old new same = subst (λ (o : Option Bytes). Appends old o []) (sym same) (Appends-nil old)

@@ -1,5 +1,5 @@
 -- What a journal of a run in threads has.
-use Rattle.std.proofs.Common.{◌≡◌, ℕ, true, false, List, [], ◌∷◌, ◌++◌, Option, Some, None, refl, sym, ap, ◌∙◌, subst, append_assoc}
+use Rattle.std.proofs.Common.{◌≡◌, ℕ, true, false, List, [], ◌++◌, Option, Some, None, length, refl, sym, ap, ◌∙◌, subst, append_assoc}
 use Rattle.std.proofs.lemmas.List.{append-nil}
 use Rattle.std.specs.Prelude.{IfSome, is_some}
 use mathlib.Core.Logic.{∥∥₁_elim, ∥∥₁_map, ∥∥₁_prop}
@@ -23,8 +23,16 @@ with_both t rs qs is js =
 module _ {J F : Type 0} (Has : J → J → Taken → Type 0) (Front : J → J → Taken → ℕ → Type 0) (start now : J) where
   -- one that has failed has a front of what it was told of by then, whatever it is told
   pub told_on : (f : F) (t : Taken) (rs : List Record) (is : List Image) → IsTold Has Front start now (Some f) t → IsTold Has Front start now (Some f) (with_more t rs is)
-  told_on f t rs is (cut, qs, js, same, least, front) =
-      (cut, qs ++ rs, js ++ is, ap (λ (x : Taken). with_more x rs is) same ∙ with_both cut qs rs js is, least, front)
+  told_on f t rs is h =
+      record {
+        before = h.before;
+        records = h.records;
+        images = h.images;
+        later_records = h.later_records ++ rs;
+        later_images = h.later_images ++ is;
+        all = ap (λ (x : Taken). with_more x rs is) h.all ∙ with_both (with_more h.before h.records h.images) h.later_records rs h.later_images is;
+        front = h.front;
+      }
 
   pub told_had : (o : Option F) (t : Taken) (rs : List Record) (is : List Image) → is_some o ≡ true → IsTold Has Front start now o t → IsTold Has Front start now o (with_more t rs is)
   told_had None t rs is failed h = absurd (cc)
@@ -36,8 +44,17 @@ module _ {J F : Type 0} (Has : J → J → Taken → Type 0) (Front : J → J �
   told_all (Some f) t going h = absurd (cc)
 
   -- one that just failed
-  pub told_front : (f : F) (t : Taken) (least : ℕ) → Front start now t least → IsTold Has Front start now (Some f) t
-  told_front f t least front = (t, [], [], with_nothing t, least, front)
+  pub told_front : (f : F) (t : Taken) (rs : List Record) (is : List Image) → Front start now (with_more t rs is) (length t.records) → IsTold Has Front start now (Some f) (with_more t rs is)
+  told_front f t rs is front =
+      record {
+        before = t;
+        records = rs;
+        images = is;
+        later_records = [];
+        later_images = [];
+        all = with_nothing (with_more t rs is);
+        front = front;
+      }
 
   pub told_same : (o : Option F) (t u : Taken) → t ≡ u → IsTold Has Front start now o t → IsTold Has Front start now o u
   told_same o t u is h = subst (λ (x : Taken). IsTold Has Front start now o x) is h
@@ -59,3 +76,10 @@ told_begun P begun k is h = ∥∥₁_elim is ∥∥₁_prop (λ e. ∥∥₁_ma
 pub told_after : {K : Type 0} (Has : K → K → List Record → List Image → Type 0) (begun : Option K) (start now : K) (old core : CoreView) (is js : List Image) → core ≡ old → js ≡ is →
     ∥ begun ≡ Some start ∥₁ → ∥ Has start now old.log is ∥₁ → ∥ IfSome begun (λ b. Has b now core.log js) ∥₁
 told_after Has begun start now old core is js same images named h = told_begun (λ b. Has b now core.log js) begun start named (told_of (Has start now) old core is js same images h)
+
+-- what is said of a beginning holds of the keeper that comes back as it was
+pub still_begun : {K : Type 0} (begun : Option K) (k j : K) → j ≡ k → ∥ begun ≡ Some k ∥₁ → ∥ begun ≡ Some j ∥₁
+still_begun begun k j is h = subst (λ x. ∥ begun ≡ Some x ∥₁) (sym is) h
+
+pub same_keeper : {K : Type 0} (k j : K) → Some k ≡ Some j → k ≡ j
+same_keeper k j is = cc

@@ -9,7 +9,7 @@ use Rattle.image.specs.Images.{Image}
 use Rattle.steps.specs.CoreViews.{CoreView}
 use Rattle.steps.specs.Openings.{IsOpened}
 use Rattle.calcdb.specs.Runs.{Carried, Carries, CarriesAll, HasRun, Images, Sent}
-use Rattle.calcdb.specs.Scripts.{Schedule}
+use Rattle.calcdb.specs.Scripts.{Schedule, ThreadScript}
 use Rattle.calcdb.specs.declared.commands.Command.{Command}
 use Rattle.calcdb.specs.declared.faults.Fault.{Fault}
 use Rattle.calcdb.specs.declared.faults.Fault.TheVariants as fault
@@ -36,11 +36,22 @@ with_more t rs is = record t { records = t.records ++ rs; images = t.images ++ i
 abbrev pub images_given : Option (Bor Image) → List Image
 images_given i = option_to_list (option_map (λ i. i.now) i)
 
--- a journal that is told of more has all of it, or a front of what it was told of when it failed, so many records at least
-module _ {J F : Type 0} (Has : J → J → Taken → Type 0) (Front : J → J → Taken → ℕ → Type 0) (start now : J) where
-  abbrev pub IsTold : Option F → Taken → Type 0
+-- how a journal is that is told of all that a run adds
+module _ {J : Type 0} (Has : J → J → Taken → Type 0) (Front : J → J → Taken → ℕ → Type 0) (start now : J) where
+  -- it failed: before, it had all that it was told of; then, with more, a front of it, with each record from before at least; it was told of the rest since
+  pub record HasFailed (told : Taken) : Type 0 where
+    pub before : Taken
+    pub records : List Record
+    pub images : List Image
+    pub later_records : List Record
+    pub later_images : List Image
+    pub all : told ≡ with_more (with_more before records images) later_records later_images
+    pub front : Front start now (with_more before records images) (length before.records)
+
+  -- it has all, or it failed
+  abbrev pub IsTold : {F : Type 0} → Option F → Taken → Type 0
   IsTold None t = Has start now t
-  IsTold (Some f) t = (cut : Taken) × (rs : List Record) × (is : List Image) × (t ≡ with_more cut rs is) × (least : ℕ) × Front start now cut least
+  IsTold (Some f) t = HasFailed t
 
 module _ {F : Type 0} where
   -- where it was no journal that failed
@@ -63,6 +74,16 @@ module _ {F : Type 0} where
   -- there was no memory to open the core with: nothing went out
   abbrev pub IsUnopened : Stop F → (Same : Type 0) → Option Bytes → Option Bytes → Type 0
   IsUnopened s Same old new = (s ≡ stop.Fault fault.NoMemory) × Same × Appends old new []
+
+  -- what a journal has before the first call: what the core was opened with, or where it failed a front of that
+  abbrev pub HasOpening : CoreView → (Has : Taken → Type 0) (Front : Taken → ℕ → Type 0) → Stop F → Type 0
+  HasOpening first Has Front (stop.Fault f) = Has (taken_of first [])
+  HasOpening first Has Front (stop.Journal e) = Front (taken_of first []) 0
+
+  -- how the journal of a run in threads is left that isn't carried out: as it was, where no core was opened
+  abbrev pub LeavesUnrun : Result ThreadScript ScriptFault → Image → (Same : Type 0) (Has : Taken → Type 0) (Front : Taken → ℕ → Type 0) → Stop F → Type 0
+  LeavesUnrun says opening Same Has Front s =
+      Same ⊎ ((script : ThreadScript) × (says ≡ Ok script) × (first : CoreView) × IsOpened script.catalog opening first × HasOpening first Has Front s)
 
 module _ (A : Type 0) where
   -- commands from the front on were carried out and answered, and one more that isn't answered

@@ -8,7 +8,7 @@ use Rattle.steps.specs.CoreViews.{CoreView}
 use Rattle.workers.specs.Checkpointed.{IsFrom}
 use Rattle.calcdb.specs.Outcomes.{Refuses}
 use Rattle.calcdb.specs.Plans.{call_commands, keys_of}
-use Rattle.calcdb.specs.ThreadRuns.{StopsInThreads, WritesRun}
+use Rattle.calcdb.specs.ThreadRuns.{Writes}
 use Rattle.calcdb.specs.Scripts.{ThreadScript}
 use Rattle.calcdb.specs.declared.faults.Fault.{Fault}
 use Rattle.calcdb.specs.declared.faults.Fault.TheVariants as fault
@@ -17,12 +17,12 @@ use Rattle.calcdb.specs.declared.scripts.ScriptFault.{ScriptFault}
 use Rattle.calcdb.specs.declared.scripts.ScriptFault.TheVariants.{Line, Size}
 
 -- the opening is one, the text is a script, and it was run in threads on a core of its procedures and that opening
-pub record RunsToEnd (is_kept : Bool) (says : Result ThreadScript ScriptFault) (opening : Image) (core : CoreView) (images : List Image) (old new : Option Bytes) : Type 0 where
+pub record RunsToEnd (is_kept : Bool) (says : Result ThreadScript ScriptFault) (opening : Image) (core : CoreView) (images : List Image) (old new : Option Bytes) (written : Result (Unit {0}) Fault) : Type 0 where
   pub lawful : is_opening opening ≡ true
   pub script : ThreadScript
   pub reads : says ≡ Ok script
   pub origin : IsFrom script.catalog opening core
-  pub writes : WritesRun is_kept (length (call_commands script.commands)) (keys_of script.commands) core images old new
+  pub writes : Writes is_kept (length (call_commands script.commands)) (keys_of script.commands) core images old new written
 
 -- why nothing is run: the opening is no opening, the text is no script, or no view was opened
 abbrev pub IsFault : Result ThreadScript ScriptFault → Image → Fault → Type 0
@@ -34,14 +34,7 @@ IsFault says opening fault.Read = ⊥
 IsFault says opening fault.Write = ⊥
 IsFault says opening fault.NoMemory = ⊥
 
--- how a run stops
-abbrev pub StopsScript : ThreadScript → (old new : Option Bytes) → Fault → Type 0
-StopsScript script old new f = StopsInThreads (length (call_commands script.commands)) (keys_of script.commands) old new f
-
--- why a run ends before its end, and what it wrote by then: nothing, the line of the fault or a beginning of it, or a
--- beginning of the run's lines
-abbrev pub EndsInThreads : Result ThreadScript ScriptFault → Image → (old new : Option Bytes) → Fault → Type 0
-EndsInThreads says opening old new f =
-    (((f ≡ fault.Read) ⊎ (f ≡ fault.NoMemory)) × Appends old new [])
-    ⊎ ((why : Fault) × IsFault says opening why × Refuses why old new f)
-    ⊎ ((script : ThreadScript) × (is_opening opening ≡ true) × (says ≡ Ok script) × StopsScript script old new f)
+-- why a run isn't carried out, and what it wrote: nothing, or the line of the fault or a beginning of it
+abbrev pub NotCarriedOut : Result ThreadScript ScriptFault → Image → (old new : Option Bytes) → Fault → Type 0
+NotCarriedOut says opening old new f =
+    (((f ≡ fault.Read) ⊎ (f ≡ fault.NoMemory)) × Appends old new []) ⊎ ((why : Fault) × IsFault says opening why × Refuses why old new f)

@@ -1,5 +1,5 @@
 -- What a run in threads comes to, and what is printed of it.
-use Rattle.std.specs.Prelude.{◌≡◌, ◌⊎◌, ℕ, Bool, true, false, ◌-◌, codes, decimal, List, [], ◌∷◌, ◌++◌, length, Option, Result, Ok, Err}
+use Rattle.std.specs.Prelude.{◌≡◌, ℕ, Bool, true, false, ◌-◌, codes, decimal, List, [], ◌∷◌, ◌++◌, length, Option, Result, Ok, Err}
 use Rattle.std.specs.Io.KnownBytes.{Appends}
 use mathlib.Core.List.{IsPrefix}
 use Rattle.procedure.specs.Bytes.{Bytes}
@@ -67,13 +67,17 @@ abbrev pub WritesRun : (is_kept : Bool) → (count : ℕ) → (keys : List Bytes
 WritesRun true count keys core images old new = (text : Bytes) × RunsInThreads count keys core images text × Appends old new text
 WritesRun false count keys core images old new = AreCuts core images × Appends old new []
 
--- one that was stopped: nothing was written, or a beginning of such a text with the first keys
-abbrev pub StopsInThreads : (count : ℕ) → (keys : List Bytes) → (old new : Option Bytes) → Fault → Type 0
-StopsInThreads count keys old new f =
-    ((f ≡ fault.NoMemory) × Appends old new [])
-    ⊎ ((core : CoreView) × (images : List Image) × (front left : List Bytes) × (keys ≡ front ++ left) × (text : Bytes) × RunsInThreads count front core images text × Sent (Err f) old new text)
+-- where its lines weren't all written: a beginning of such a text with the first keys
+abbrev pub StopsInThreads : (count : ℕ) → (keys : List Bytes) → CoreView → List Image → (old new : Option Bytes) → Fault → Type 0
+StopsInThreads count keys core images old new f =
+    (front left : List Bytes) × (keys ≡ front ++ left) × (text : Bytes) × RunsInThreads count front core images text × Sent (Err f) old new text
 
--- how a run ends before its end: by a fault, or where its journal couldn't begin
+-- and how that went
+abbrev pub Writes : (is_kept : Bool) → (count : ℕ) → (keys : List Bytes) → CoreView → List Image → (old new : Option Bytes) → Result (Unit {0}) Fault → Type 0
+Writes is_kept count keys core images old new (Ok x) = WritesRun is_kept count keys core images old new
+Writes is_kept count keys core images old new (Err f) = (is_kept ≡ true) × StopsInThreads count keys core images old new f
+
+-- why a run isn't carried out: a fault, or its journal couldn't begin
 abbrev pub StopsWith : {F : Type 0} → (Fault → Type 0) → Type 0 → Stop F → Type 0
 StopsWith P Unbegun (stop.Fault f) = P f
 StopsWith P Unbegun (stop.Journal e) = Unbegun

@@ -33,7 +33,7 @@ pub(crate) struct Ran<P, A: Allocator> {
 }
 
 /// What a run leaves whose images are kept, in order.
-pub(crate) type RanKept<A> = Ran<Vec<Image<A>, A>, A>;
+pub(crate) type RanWithImages<A> = Ran<Vec<Image<A>, A>, A>;
 
 /// Writes the one line of a text that is no script.
 pub(crate) fn refuse_script<W: Write, A: Allocator + Clone>(

@@ -10,7 +10,7 @@ ghost use Rattle.calcdb.specs.RunFiles.{Makes, MakesFront, image_file, run_files
 ghost use Rattle.calcdb.specs.declared.faults.failures.RunFile.TheVariants as name;
 
 use crate::digesting::{Digesting, Telling};
-use crate::engine::RanKept;
+use crate::engine::RanWithImages;
 use crate::faults::failures::RunFile;
 use commitlog::{LogHeader, Record, encode_to};
 use image::{Image, seal_to};
@@ -133,7 +133,7 @@ pub(crate) fn write_run<R, F: RunFolder<R>, A: Allocator + Copy>(
     alloc: A,
     rt: &R,
     folder: &mut F,
-    ran: &RanKept<A>,
+    ran: &RanWithImages<A>,
 ) -> Result<(), F::Failure>
     ensures ok { OnOk result (Makes (F.made folder.old) (F.made folder.new) (run_files ran.now.core ran.now.images.items)) }
     ensures err { IfErr result (λ _. MakesFront (F.made folder.old) (F.made folder.new) (run_files ran.now.core ran.now.images.items)) }

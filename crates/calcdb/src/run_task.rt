@@ -1,7 +1,7 @@
 //! What the program does for `run`.
 
 use crate::command_line::RunFiles;
-use crate::engine::{RanKept, run_kept, run_script};
+use crate::engine::{RanWithImages, run_kept, run_script};
 use crate::faults::failures::Failure;
 use crate::faults::refusals::write_fault;
 use crate::faults::subjects::Subject;
@@ -14,8 +14,7 @@ use crate::other_images::{OtherImages, other_images};
 use crate::progress::{CountedBytes, CountedLines, CountedSteps, Progress};
 use crate::run_folder::write_run;
 use crate::sinks::Discard;
-use crate::thread_journals::ThreadJournal;
-use crate::threads::run_threads;
+use crate::threads::{CarriedOut, run_threads};
 use image::{Image, Kind, ReadError, ReadFromError, read_from};
 use std::alloc::Allocator;
 use std::io::{Read, Write};
@@ -75,7 +74,7 @@ fn fill_folder<'a, R: Files + Alloc, A: Allocator + Copy>(
     alloc: A,
     rt: &R,
     mut folder: NewFolder<'a, A>,
-    ran: &RanKept<A>,
+    ran: &RanWithImages<A>,
 ) -> Result<Option<OtherImages<'a>>, Failure<'a>>
 where
     R::File: Drop,
@@ -89,7 +88,7 @@ fn leave_run<'a, R: Files + Alloc, O: Write, A: Allocator + Copy>(
     alloc: A,
     rt: &R,
     folder: Option<&'a str>,
-    ran: &RanKept<A>,
+    ran: &RanWithImages<A>,
     out: &mut O,
 ) -> Result<Option<OtherImages<'a>>, Failure<'a>>
 where
@@ -124,15 +123,18 @@ fn run_reader<
     opening: Image<A>,
     progress: Option<&P>,
     out: &mut O,
-) -> Result<RanKept<A>, Fault> {
+) -> Result<RanWithImages<A>, Fault> {
     match threads {
         Some(threads) => {
             let gate = CountedSteps::new(progress);
             let ran = run_threads(threads, alloc, &(), NoJournal, script, out, opening, &gate);
             match ran {
-                Ok((ran, _)) => Ok(ran),
-                Err(Stop::Fault(fault)) => Err(fault),
-                Err(Stop::Journal(never)) => match never {},
+                Ok(CarriedOut { ran, written, .. }) => match written {
+                    Ok(()) => Ok(ran),
+                    Err(fault) => Err(fault),
+                },
+                Err((Stop::Fault(fault), _)) => Err(fault),
+                Err((Stop::Journal(never), _)) => match never {},
             }
         }
         None => {
@@ -188,7 +190,7 @@ where
         Ok(ran) => {
             // As in `run_and_leave`.
             mem::forget(ran);
-            end_live(rt, live, None, out)
+            end_live(rt, live, out)
         }
         Err(Stop::Journal(failure)) => Err(failure),
         Err(Stop::Fault(fault)) => Err(failure_of(fault, files)),
@@ -199,15 +201,11 @@ where
 fn end_live<'a, R: Files + Alloc, O: Write, A: Allocator + Copy>(
     rt: &R,
     mut live: LiveRun<NewFolder<'a, A>, NewFile<R::File, A>>,
-    failure: Option<Failure<'a>>,
     out: &mut O,
 ) -> Result<(), Failure<'a>>
 where
     R::File: Drop,
 {
-    if let Some(failure) = failure {
-        return Err(failure);
-    }
     let ended = live.end(rt);
     flush(out, Failure::CannotPrint)?;
     ended
@@ -241,18 +239,29 @@ where
     let gate = CountedSteps::new(progress);
     let live = LiveRun::new(NewFolder { alloc, path }, files.sync);
     match run_threads(threads, alloc, rt, live, script, out, opening, &gate) {
-        Ok((ran, kept)) => {
-            // As in `run_and_leave`.
-            mem::forget(ran);
-            let ThreadJournal {
+        Ok(
+            CarriedOut {
+                ran,
                 journal,
                 failure,
-                ..
-            } = kept;
-            end_live(rt, journal, failure, out)
+                written,
+            },
+        ) => {
+            // As in `run_and_leave`.
+            mem::forget(ran);
+            match (failure, written) {
+                (Some(failure), _) => Err(failure),
+                (None, Err(fault)) => Err(failure_of(fault, files)),
+                (None, Ok(())) => end_live(rt, journal, out),
+            }
         }
-        Err(Stop::Journal(failure)) => Err(failure),
-        Err(Stop::Fault(fault)) => Err(failure_of(fault, files)),
+        Err((stop, journal)) => {
+            drop(journal);
+            match stop {
+                Stop::Journal(failure) => Err(failure),
+                Stop::Fault(fault) => Err(failure_of(fault, files)),
+            }
+        }
     }
 }
 

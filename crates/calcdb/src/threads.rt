@@ -1,24 +1,24 @@
 //! A run of a script in threads, from its reader to its writer.
 
-ghost use Rattle.std.specs.Prelude.{◌≡◌, ◌≢◌, ◌⊎◌, ◌++◌, ◌∷◌, [], ◌+◌, Err, IfErr, IfOk, IfSome, List, Ok, OnOk, Some, is_none, length, true};
+ghost use Rattle.std.specs.Prelude.{◌≡◌, ◌≢◌, ◌⊎◌, ◌++◌, ◌∷◌, [], ◌+◌, Err, IfErr, IfOk, IfSome, List, Ok, OnErr, OnOk, Some, is_none, length, true};
 ghost use Rattle.std.specs.Io.KnownBytes.{Appends};
 ghost use mathlib.Core.List.{IsPrefix};
 ghost use Rattle.image.specs.Openings.{is_opening};
 ghost use Rattle.procedure.specs.Bytes.{Bytes};
 ghost use Rattle.view.specs.Views.{name_of};
 ghost use Rattle.workers.specs.Checkpointed.{AreCuts, IsFrom, call_count};
-ghost use Rattle.calcdb.specs.Journals.{IfFault, IsTold, taken_of};
+ghost use Rattle.calcdb.specs.Journals.{IfFault, IsTold, LeavesUnrun, taken_of};
 ghost use Rattle.calcdb.specs.Outcomes.{Refuses};
 ghost use Rattle.calcdb.specs.Plans.{call_commands, keys_of};
 ghost use Rattle.calcdb.specs.Runs.{Sent};
-ghost use Rattle.calcdb.specs.ThreadRuns.{RunsInThreads, ShowsEach, StopsInThreads, StopsWith, WritesRun, run_text};
-ghost use Rattle.calcdb.specs.ThreadOutcomes.{EndsInThreads, RunsToEnd};
+ghost use Rattle.calcdb.specs.ThreadRuns.{RunsInThreads, ShowsEach, StopsInThreads, StopsWith, Writes, run_text};
+ghost use Rattle.calcdb.specs.ThreadOutcomes.{NotCarriedOut, RunsToEnd};
 ghost use Rattle.calcdb.specs.Scripts.{thread_script_of};
 ghost use Rattle.calcdb.specs.declared.faults.Fault.TheVariants as fault;
 ghost use Rattle.calcdb.specs.declared.faults.Reason.TheVariants as reason;
 
 use crate::core_audits::audit_core;
-use crate::engine::{Ran, RanKept, refuse_script};
+use crate::engine::{Ran, RanWithImages, refuse_script};
 use crate::faults::refusals::write_fault;
 use crate::faults::{Fault, Reason};
 use crate::journals::{Journal, Stop};
@@ -46,7 +46,7 @@ use workers::{Beginning, Gate, Keeper, NotRun, Report, run_kept};
 fn write_ran<W: Write, A: Allocator + Copy>(
     alloc: A,
     writer: &mut W,
-    ran: &RanKept<A>,
+    ran: &RanWithImages<A>,
     count: usize,
 ) -> Result<(), Fault>
     ensures { Sent result (W.contents writer.old) (W.contents writer.new) (run_text count (call_count ran.now.core.log) (length ran.now.images.items) (Ok tt)) }
@@ -110,7 +110,7 @@ fn look_each<J: Naming, W: Write, A: Allocator + Copy>(
 
 /// A core of the procedures and the opening that the name says, and a keeper that begins as it says.
 #[derive(Drop)]
-struct Named<J: Beginning<K>, A: Allocator, K: Keeper<A> + Drop> {
+struct Named<J: Beginning<K>, K: Keeper<A> + Drop, A: Allocator> {
     core: Core<A>,
     keeper: K,
     name: PhantomData<J>,
@@ -121,12 +121,34 @@ struct Named<J: Beginning<K>, A: Allocator, K: Keeper<A> + Drop> {
 
 /// Such a core after a run, with its images, and the keeper, which was told of them and of the log.
 #[derive(Drop)]
-struct Ended<J: Beginning<K>, A: Allocator, K: Keeper<A> + Drop> {
+struct Ended<J: Beginning<K>, K: Keeper<A> + Drop, A: Allocator> {
     taken: Checkpointed<A>,
     keeper: K,
     name: PhantomData<J>,
     ghost origin: { IsFrom J.catalog J.opening taken.core },
     ghost told: { ∥ IfSome J.begun (λ b. K.Has b keeper taken.core.log taken.images) ∥₁ },
+}
+
+/// A keeper that was told of nothing since it began as the name says.
+#[derive(Drop)]
+struct Untold<J: Beginning<K>, K: Drop> {
+    keeper: K,
+    name: PhantomData<J>,
+    ghost begun: { ∥ J.begun ≡ Some keeper ∥₁ },
+}
+
+/// A run that was carried out, the keeper that was told of it, and whether all its lines were written.
+type Finished<K, A> = (RanWithImages<A>, K, Result<(), Fault>);
+
+/// A run in threads that was carried out.
+#[derive(Drop)]
+pub(crate) struct CarriedOut<J: Drop, F: Drop, A: Allocator> {
+    pub ran: RanWithImages<A>,
+    pub journal: J,
+    /// How the journal failed, if it did.
+    pub failure: Option<F>,
+    /// Whether all lines of the run were written.
+    pub written: Result<(), Fault>,
 }
 
 /// Runs scripts and makes checkpoints, and then says that they have ended. The publisher comes back, with what
@@ -141,13 +163,13 @@ fn run_to_end<
 >(
     threads: &T,
     alloc: A,
-    named: Named<J, A, K>,
+    named: Named<J, K, A>,
     scripts: Vec<workers::Script<A>, A>,
     kinds: &[Kind],
     publisher: Publisher<J, Q, A>,
     gate: &G,
     ended: &AtomicBool,
-) -> Result<(Ended<J, A, K>, Publisher<J, Q, A>, Told<J, A>), NoMemory> {
+) -> Result<(Ended<J, K, A>, Publisher<J, Q, A>, Told<J, A>), Untold<J, K>> {
     let Named { core, keeper, name } = named;
     let ran = run_kept(
         threads, alloc, core, scripts, kinds, publisher, gate, keeper,
@@ -175,8 +197,8 @@ fn run_to_end<
         Err((NotRun { core, publisher }, keeper)) => {
             drop(core);
             drop(publisher);
-            drop(keeper);
-            Err(NoMemory)
+            let untold = Untold { keeper, name };
+            Err(untold)
         }
     }
 }
@@ -185,14 +207,14 @@ fn run_to_end<
 fn write_ended<J: Naming, W: Write, A: Allocator + Copy>(
     alloc: A,
     writer: &mut W,
-    ran: &RanKept<A>,
+    ran: &RanWithImages<A>,
     reader: Reader<J, A>,
     keys: &[Key],
     count: usize,
 ) -> Result<(), Fault>
     requires { AreCuts ran.now.core ran.now.images.items }
     ensures ok { OnOk result ((text : Bytes) × RunsInThreads count keys.now ran.now.core ran.now.images.items text × Appends (W.contents writer.old) (W.contents writer.new) text) }
-    ensures err { IfErr result (StopsInThreads count keys.now (W.contents writer.old) (W.contents writer.new)) }
+    ensures err { IfErr result (StopsInThreads count keys.now ran.now.core ran.now.images.items (W.contents writer.old) (W.contents writer.new)) }
 {
     match write_ran(alloc, writer, ran, count) {
         Ok(()) => look_each(alloc, writer, reader, keys),
@@ -214,17 +236,16 @@ fn finish_run<
 >(
     alloc: A,
     writer: &mut W,
-    ended: Ended<J, A, K>,
+    ended: Ended<J, K, A>,
     publisher: Publisher<J, Q, A>,
     last: Told<J, A>,
     reader: Reader<J, A>,
     keys: Vec<Key, A>,
     count: usize,
-) -> Result<(RanKept<A>, K), Fault>
-    ensures ok { IfOk result (λ r. WritesRun (K.is_going r.1) count keys.items r.0.core r.0.images.items (W.contents writer.old) (W.contents writer.new)) }
-    ensures origin { IfOk result (λ r. IsFrom J.catalog J.opening r.0.core) }
-    ensures told { IfOk result (λ r. ∥ IfSome J.begun (λ b. K.Has b r.1 r.0.core.log r.0.images.items) ∥₁) }
-    ensures err { IfErr result (StopsInThreads count keys.items (W.contents writer.old) (W.contents writer.new)) }
+) -> Finished<K, A>
+    ensures written { Writes (K.is_going result.1) count keys.items result.0.core result.0.images.items (W.contents writer.old) (W.contents writer.new) result.2 }
+    ensures origin { IsFrom J.catalog J.opening result.0.core }
+    ensures told { ∥ IfSome J.begun (λ b. K.Has b result.1 result.0.core.log result.0.images.items) ∥₁ }
 {
     let Ended { taken, keeper, .. } = ended;
     let (core, images) = taken.into_parts();
@@ -234,24 +255,17 @@ fn finish_run<
         drop(reader);
         drop(keys);
         drop(publisher);
-        return Ok((ran, keeper));
+        return (ran, keeper, Ok(()));
     }
     let written = write_ended(alloc, writer, &ran, reader, keys.as_slice(), count);
     drop(keys);
     // The table is open to lookers as long as there is its publisher.
     drop(publisher);
-    match written {
-        Ok(()) => Ok((ran, keeper)),
-        Err(fault) => {
-            drop(ran);
-            drop(keeper);
-            Err(fault)
-        }
-    }
+    (ran, keeper, written)
 }
 
 /// Carries out a plan on a core, beside a thread in which the reader looks the keys up, and writes what came
-/// of it.
+/// of it. Without memory for its sessions it hands the keeper back.
 fn run_plan<
     'a,
     J: Naming + Beginning<K> + Send + Sync,
@@ -264,16 +278,17 @@ fn run_plan<
     threads: &'a T,
     alloc: A,
     writer: &mut W,
-    named: Named<J, A, K>,
+    named: Named<J, K, A>,
     plan: Plan<A>,
     publisher: Publisher<J, &'a T, A>,
     reader: Reader<J, A>,
     gate: &G,
-) -> Result<(RanKept<A>, K), Fault>
-    ensures ok { IfOk result (λ r. WritesRun (K.is_going r.1) plan.count plan.keys.items r.0.core r.0.images.items (W.contents writer.old) (W.contents writer.new)) }
+) -> Result<Finished<K, A>, K>
+    ensures written { IfOk result (λ r. Writes (K.is_going r.1) plan.count plan.keys.items r.0.core r.0.images.items (W.contents writer.old) (W.contents writer.new) r.2) }
     ensures origin { IfOk result (λ r. IsFrom J.catalog J.opening r.0.core) }
     ensures told { IfOk result (λ r. ∥ IfSome J.begun (λ b. K.Has b r.1 r.0.core.log r.0.images.items) ∥₁) }
-    ensures err { IfErr result (StopsInThreads plan.count plan.keys.items (W.contents writer.old) (W.contents writer.new)) }
+    ensures begun { IfErr result (λ k. ∥ J.begun ≡ Some k ∥₁) }
+    ensures err { OnErr result (W.contents writer.new ≡ W.contents writer.old) }
 {
     let Plan {
         scripts,
@@ -292,12 +307,12 @@ fn run_plan<
     let (reader, ran) = thread::join(threads, looks, runs);
     match ran {
         Ok((ended, publisher, last)) => {
-            finish_run(alloc, writer, ended, publisher, last, reader, keys, count)
+            Ok(finish_run(alloc, writer, ended, publisher, last, reader, keys, count))
         }
-        Err(NoMemory) => {
+        Err(Untold { keeper, .. }) => {
             drop(reader);
             drop(keys);
-            Err(Fault::NoMemory)
+            Err(keeper)
         }
     }
 }
@@ -319,21 +334,22 @@ fn run_in_view<
     plan: Plan<A>,
     opened: Opened<A>,
     gate: &G,
-) -> Result<(RanKept<A>, K), Fault>
+) -> Result<Finished<K, A>, (Fault, K)>
     requires name { name_of opened ≡ J.book }
     requires origin { IsFrom J.catalog J.opening core }
     requires begun { ∥ J.begun ≡ Some keeper ∥₁ }
     requires told { ∥ K.Has keeper keeper core.log [] ∥₁ }
-    ensures ok { IfOk result (λ r. WritesRun (K.is_going r.1) plan.count plan.keys.items r.0.core r.0.images.items (W.contents writer.old) (W.contents writer.new)) }
+    ensures written { IfOk result (λ r. Writes (K.is_going r.1) plan.count plan.keys.items r.0.core r.0.images.items (W.contents writer.old) (W.contents writer.new) r.2) }
     ensures origin { IfOk result (λ r. IsFrom J.catalog J.opening r.0.core) }
     ensures told { IfOk result (λ r. ∥ IfSome J.begun (λ b. K.Has b r.1 r.0.core.log r.0.images.items) ∥₁) }
-    ensures err { IfErr result (λ f. Refuses (fault.Refused reason.NoView) (W.contents writer.old) (W.contents writer.new) f ⊎ StopsInThreads plan.count plan.keys.items (W.contents writer.old) (W.contents writer.new) f) }
+    ensures begun { IfErr result (λ e. ∥ J.begun ≡ Some e.1 ∥₁) }
+    ensures err { IfErr result (λ e. Refuses (fault.Refused reason.NoView) (W.contents writer.old) (W.contents writer.new) e.0 ⊎ ((e.0 ≡ fault.NoMemory) × Appends (W.contents writer.old) (W.contents writer.new) [])) }
 {
     match open_view::<J, &T, A>(alloc, threads, opened) {
         Ok((publisher, looker, seen)) => {
             let name = PhantomData;
             let reader = Reader { looker, seen };
-            run_plan(
+            let ran = run_plan(
                 threads,
                 alloc,
                 writer,
@@ -342,14 +358,17 @@ fn run_in_view<
                 publisher,
                 reader,
                 gate,
-            )
+            );
+            match ran {
+                Ok(ran) => Ok(ran),
+                Err(keeper) => Err((Fault::NoMemory, keeper)),
+            }
         }
         Err(_) => {
             drop(core);
-            drop(keeper);
             drop(plan);
             let refused = Fault::Refused(Reason::NoView);
-            Err(write_fault(alloc, writer, refused))
+            Err((write_fault(alloc, writer, refused), keeper))
         }
     }
 }
@@ -372,17 +391,18 @@ fn run_begun<
     core: Core<A>,
     plan: Plan<A>,
     gate: &G,
-) -> Result<(RanKept<A>, ThreadJournal<'a, N, R, A>), Fault>
+) -> Result<CarriedOut<N, N::Failure, A>, (Fault, N)>
 where
     N::Failure: Send,
     requires { core.log ≡ [] }
-    ensures ok { IfOk result (λ r. WritesRun (is_none r.1.failure) plan.count plan.keys.items r.0.core r.0.images.items (W.contents writer.old) (W.contents writer.new)) }
-    ensures origin { IfOk result (λ r. IsFrom core.catalog core.opening r.0.core) }
+    ensures written { IfOk result (λ r. Writes (is_none r.failure) plan.count plan.keys.items r.ran.core r.ran.images.items (W.contents writer.old) (W.contents writer.new) r.written) }
+    ensures origin { IfOk result (λ r. IsFrom core.catalog core.opening r.ran.core) }
     ensures told { (start : N) → IsTold N.Has N.HasFront start keeper.entry.journal keeper.entry.failure (taken_of core []) →
-        IfOk result (λ r. ∥ IsTold N.Has N.HasFront start r.1.journal r.1.failure (taken_of r.0.core r.0.images.items) ∥₁) }
-    ensures err { IfErr result (λ f. Refuses (fault.Refused reason.NoView) (W.contents writer.old) (W.contents writer.new) f ⊎ StopsInThreads plan.count plan.keys.items (W.contents writer.old) (W.contents writer.new) f) }
+        IfOk result (λ r. ∥ IsTold N.Has N.HasFront start r.journal r.failure (taken_of r.ran.core r.ran.images.items) ∥₁) }
+    ensures same { IfErr result (λ e. ∥ keeper.entry.journal ≡ e.1 ∥₁) }
+    ensures err { IfErr result (λ e. Refuses (fault.Refused reason.NoView) (W.contents writer.old) (W.contents writer.new) e.0 ⊎ ((e.0 ≡ fault.NoMemory) × Appends (W.contents writer.old) (W.contents writer.new) [])) }
 {
-    run_in_view::<Brand, W, T, A, G, ThreadJournal<'a, N, R, A>>(
+    let ran = run_in_view::<Brand, W, T, A, G, ThreadJournal<'a, N, R, A>>(
         threads,
         alloc,
         writer,
@@ -391,7 +411,26 @@ where
         plan,
         Opened::new(),
         gate,
-    )
+    );
+    match ran {
+        Ok((ran, keeper, written)) => {
+            let ThreadJournal {
+                journal,
+                failure,
+                ..
+            } = keeper;
+            Ok(CarriedOut {
+                ran,
+                journal,
+                failure,
+                written,
+            })
+        }
+        Err((fault, keeper)) => {
+            let ThreadJournal { journal, .. } = keeper;
+            Err((fault, journal))
+        }
+    }
 }
 
 /// Carries out a script on a core that is opened for it, of which the journal has the opening before any call.
@@ -412,25 +451,24 @@ fn run_opened<
     script: ThreadScript<A>,
     opening: Image<A>,
     gate: &G,
-) -> Result<(RanKept<A>, ThreadJournal<'a, N, R, A>), Stop<N::Failure>>
+) -> Result<CarriedOut<N, N::Failure, A>, (Stop<N::Failure>, N)>
 where
     N::Failure: Send,
     requires { is_opening opening ≡ true }
-    ensures ok { IfOk result (λ r. WritesRun (is_none r.1.failure) (length (call_commands script.commands)) (keys_of script.commands) r.0.core r.0.images.items (W.contents writer.old) (W.contents writer.new)) }
-    ensures origin { IfOk result (λ r. IsFrom script.catalog opening r.0.core) }
-    ensures told { IfOk result (λ r. ∥ IsTold N.Has N.HasFront journal r.1.journal r.1.failure (taken_of r.0.core r.0.images.items) ∥₁) }
-    ensures err { IfErr result (StopsWith (λ f. Refuses (fault.Refused reason.NoView) (W.contents writer.old) (W.contents writer.new) f ⊎ StopsInThreads (length (call_commands script.commands)) (keys_of script.commands) (W.contents writer.old) (W.contents writer.new) f) (Appends (W.contents writer.old) (W.contents writer.new) [])) }
+    ensures written { IfOk result (λ r. Writes (is_none r.failure) (length (call_commands script.commands)) (keys_of script.commands) r.ran.core r.ran.images.items (W.contents writer.old) (W.contents writer.new) r.written) }
+    ensures origin { IfOk result (λ r. IsFrom script.catalog opening r.ran.core) }
+    ensures told { IfOk result (λ r. ∥ IsTold N.Has N.HasFront journal r.journal r.failure (taken_of r.ran.core r.ran.images.items) ∥₁) }
+    ensures left { IfErr result (λ e. ∥ LeavesUnrun (Ok script) opening (e.1 ≡ journal) (N.Has journal e.1) (N.HasFront journal e.1) e.0 ∥₁) }
+    ensures err { IfErr result (λ e. StopsWith (λ f. Refuses (fault.Refused reason.NoView) (W.contents writer.old) (W.contents writer.new) f ⊎ ((f ≡ fault.NoMemory) × Appends (W.contents writer.old) (W.contents writer.new) [])) (Appends (W.contents writer.old) (W.contents writer.new) []) e.0) }
 {
     let Script { catalog, commands } = script;
     let Ok(plan) = plan_of(alloc, commands.into_vec()) else {
-        drop(journal);
-        return Err(Stop::Fault(Fault::NoMemory));
+        return Err((Stop::Fault(Fault::NoMemory), journal));
     };
     let Ok(core) = Core::open(alloc, catalog, opening) else {
         // The opening is one, so memory was wanting.
         drop(plan);
-        drop(journal);
-        return Err(Stop::Fault(Fault::NoMemory));
+        return Err((Stop::Fault(Fault::NoMemory), journal));
     };
     match journal.open(alloc, rt, &core) {
         Ok(()) => {
@@ -442,14 +480,13 @@ where
             };
             match run_begun(threads, alloc, keeper, writer, core, plan, gate) {
                 Ok(ran) => Ok(ran),
-                Err(fault) => Err(Stop::Fault(fault)),
+                Err((fault, journal)) => Err((Stop::Fault(fault), journal)),
             }
         }
         Err(failure) => {
             drop(core);
             drop(plan);
-            drop(journal);
-            Err(Stop::Journal(failure))
+            Err((Stop::Journal(failure), journal))
         }
     }
 }
@@ -472,37 +509,35 @@ fn run_text<
     text: Vec<u8, A>,
     opening: Image<A>,
     gate: &G,
-) -> Result<(RanKept<A>, ThreadJournal<'a, N, R, A>), Stop<N::Failure>>
+) -> Result<CarriedOut<N, N::Failure, A>, (Stop<N::Failure>, N)>
 where
     N::Failure: Send,
     requires { is_opening opening ≡ true }
-    ensures run { IfOk result (λ r. RunsToEnd (is_none r.1.failure) (thread_script_of text.items) opening r.0.core r.0.images.items (W.contents writer.old) (W.contents writer.new)) }
-    ensures told { IfOk result (λ r. ∥ IsTold N.Has N.HasFront journal r.1.journal r.1.failure (taken_of r.0.core r.0.images.items) ∥₁) }
-    ensures fault { IfErr result (StopsWith (EndsInThreads (thread_script_of text.items) opening (W.contents writer.old) (W.contents writer.new)) (Appends (W.contents writer.old) (W.contents writer.new) [])) }
-    ensures unread { IfErr result (IfFault (λ f. f ≢ fault.Read)) }
+    ensures run { IfOk result (λ r. RunsToEnd (is_none r.failure) (thread_script_of text.items) opening r.ran.core r.ran.images.items (W.contents writer.old) (W.contents writer.new) r.written) }
+    ensures told { IfOk result (λ r. ∥ IsTold N.Has N.HasFront journal r.journal r.failure (taken_of r.ran.core r.ran.images.items) ∥₁) }
+    ensures left { IfErr result (λ e. ∥ LeavesUnrun (thread_script_of text.items) opening (e.1 ≡ journal) (N.Has journal e.1) (N.HasFront journal e.1) e.0 ∥₁) }
+    ensures fault { IfErr result (λ e. StopsWith (NotCarriedOut (thread_script_of text.items) opening (W.contents writer.old) (W.contents writer.new)) (Appends (W.contents writer.old) (W.contents writer.new) []) e.0) }
+    ensures unread { IfErr result (λ e. IfFault (λ f. f ≢ fault.Read) e.0) }
 {
     let read = read_thread_script(alloc, text.as_slice());
     // Its memory isn't needed while the script is carried out.
     drop(text);
     match read {
         Ok(script) => run_opened(threads, alloc, rt, journal, writer, script, opening, gate),
-        Err(fault) => {
-            drop(journal);
-            Err(Stop::Fault(refuse_script(alloc, writer, fault)))
-        }
+        Err(fault) => Err((Stop::Fault(refuse_script(alloc, writer, fault)), journal)),
     }
 }
 
 /// Runs the script that a reader gives in threads, on a core that is opened from an image: the calls of each
 /// session in one of their own, the checkpoints in another, and beside them a looker that gets the keys. At
 /// the end it writes what came of them. The opening is looked at first, then the whole text; where one of them
-/// is faulty, or no view can be opened, one line says so and nothing else is written. A read or write that
-/// fails, by an interruption too, and a write of no byte end the run. The threads pass the gate before each
-/// step.
+/// is faulty, or no view can be opened, one line says so and nothing else is written. A read that fails, by an
+/// interruption too, ends the run before it begins. A write that fails so, and a write of no byte, end what is
+/// written. The threads pass the gate before each step.
 ///
 /// A journal has what the core was opened with before the first call, and each record and image while the core's
 /// lock is held. It comes back with its failure, if it failed; then each session ended after its next answer, and
-/// nothing is written.
+/// nothing is written. Where nothing was run it comes back too.
 pub(crate) fn run_threads<
     'a,
     N: Journal<R, A> + Drop + Send,
@@ -521,30 +556,32 @@ pub(crate) fn run_threads<
     writer: &mut W,
     opening: Image<A>,
     gate: &G,
-) -> Result<(RanKept<A>, ThreadJournal<'a, N, R, A>), Stop<N::Failure>>
+) -> Result<CarriedOut<N, N::Failure, A>, (Stop<N::Failure>, N)>
 where
     N::Failure: Send,
     // Where the reader tells its bytes: the core has the script's procedures and the opening, each image is that
-    // of its checkpoint in its log, the log passes its audit, and the lines of all that were written.
-    ensures run { IfOk result (λ r. (source : Bytes) → I.remaining reader.old ≡ Some source → RunsToEnd (is_none r.1.failure) (thread_script_of source) opening r.0.core r.0.images.items (W.contents writer.old) (W.contents writer.new)) }
+    // of its checkpoint in its log, the log passes its audit, and the lines of all that were written, or a beginning
+    // of them.
+    ensures run { IfOk result (λ r. (source : Bytes) → I.remaining reader.old ≡ Some source → RunsToEnd (is_none r.failure) (thread_script_of source) opening r.ran.core r.ran.images.items (W.contents writer.old) (W.contents writer.new) r.written) }
     // The journal has all of the core's log and the images, or where it failed a front of what it was told of by then.
-    ensures told { IfOk result (λ r. ∥ IsTold N.Has N.HasFront journal r.1.journal r.1.failure (taken_of r.0.core r.0.images.items) ∥₁) }
-    // And else the one line of the fault, or a beginning of these lines; nothing where the journal couldn't begin.
-    ensures fault { IfErr result (λ s. (source : Bytes) → I.remaining reader.old ≡ Some source → StopsWith (EndsInThreads (thread_script_of source) opening (W.contents writer.old) (W.contents writer.new)) (Appends (W.contents writer.old) (W.contents writer.new) []) s) }
+    ensures told { IfOk result (λ r. ∥ IsTold N.Has N.HasFront journal r.journal r.failure (taken_of r.ran.core r.ran.images.items) ∥₁) }
+    // Where nothing was run it is as it was, or has what a core was opened with, or a front of that where it failed.
+    ensures left { IfErr result (λ e. (source : Bytes) → I.remaining reader.old ≡ Some source → ∥ LeavesUnrun (thread_script_of source) opening (e.1 ≡ journal) (N.Has journal e.1) (N.HasFront journal e.1) e.0 ∥₁) }
+    // And then the one line of the fault was written, or a beginning of it; nothing where the journal couldn't begin.
+    ensures fault { IfErr result (λ e. (source : Bytes) → I.remaining reader.old ≡ Some source → StopsWith (NotCarriedOut (thread_script_of source) opening (W.contents writer.old) (W.contents writer.new)) (Appends (W.contents writer.old) (W.contents writer.new) []) e.0) }
 {
     if !opening.is_opening() {
-        drop(journal);
         let refused = Fault::Refused(Reason::NotAnOpening);
-        return Err(Stop::Fault(write_fault(alloc, writer, refused)));
+        return Err((Stop::Fault(write_fault(alloc, writer, refused)), journal));
     }
     let text = match read_past(alloc, reader, SCRIPT_BYTES) {
         Ok(text) => text,
         Err(unread) => {
-            drop(journal);
-            return Err(Stop::Fault(match unread {
+            let fault = match unread {
                 Unread::ReadFault => Fault::Read,
                 Unread::NoMemory => Fault::NoMemory,
-            }));
+            };
+            return Err((Stop::Fault(fault), journal));
         }
     };
     run_text(threads, alloc, rt, journal, writer, text, opening, gate)

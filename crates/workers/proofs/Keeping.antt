@@ -7,14 +7,14 @@ use Rattle.std.specs.Option.{option_to_list}
 use Rattle.std.proofs.lemmas.List.{length-append}
 use Rattle.commitlog.specs.Records.{Record}
 use Rattle.image.specs.Images.{Image}
-use Rattle.workers.specs.Checkpointed.{Checkpointed, GoesOn, IsTakenInto, last_image}
+use Rattle.workers.specs.Checkpointed.{Checkpointed, LogGrows, IsTakenInto, last_image}
 
 -- it keeps what it has where nothing is added
 pub same_kept : (P : List Record → List Image → Type 0) {log new : List Record} {is js : List Image} → new ≡ log → js ≡ is → ∥ P log is ∥₁ → ∥ P new js ∥₁
 same_kept P {log = log} {js = js} logs images h = subst (λ (l : List Record). ∥ P l js ∥₁) (sym logs) (subst (λ (i : List Image). ∥ P log i ∥₁) (sym images) h)
 
 -- what was added is what comes after what was there
-added : (log new : List Record) → GoesOn log new → log ++ drop (length log) new ≡ new
+added : (log new : List Record) → LogGrows log new → log ++ drop (length log) new ≡ new
 added log new g = ap (λ (l : List Record). log ++ drop (length log) l) g.1 ∙ (ap (λ (l : List Record). log ++ l) (drop-append_seam log g.0) ∙ sym g.1)
 
 module _ {K : Type 0} (Has : K → K → List Record → List Image → Type 0) (before now : K) where
@@ -25,7 +25,7 @@ module _ {K : Type 0} (Has : K → K → List Record → List Image → Type 0) 
   -- it takes the records that were added
   pub more_kept : (begun : Option K) (log new more : List Record) {is js : List Image} →
       ((b : K) (l : List Record) (i : List Image) → Has b before l i → Has b now (l ++ more) i) →
-      more ≡ drop (length log) new → GoesOn log new → js ≡ is →
+      more ≡ drop (length log) new → LogGrows log new → js ≡ is →
       ∥ IfSome begun (λ b. Has b before log is) ∥₁ → ∥ IfSome begun (λ b. Has b now new js) ∥₁
   more_kept begun log new more {is = is} {js = js} takes same goes images h =
       let all = ap (λ (l : List Record). log ++ l) same ∙ added log new goes in

@@ -44,9 +44,9 @@ pub record IsTakenInto (old new : Checkpointed) (was_waiting : Bool) : Type 0 wh
 abbrev pub TakesInto : (old new : Checkpointed) → Result Bool NoMemory → Type 0
 TakesInto old new r = IfOk r (IsTakenInto old new) × OnErr r (new ≡ old)
 
--- a log goes on: it has what it had, and then what was added
-abbrev pub GoesOn : (old new : List Record) → Type 0
-GoesOn old new = (more : List Record) × (new ≡ old ++ more)
+-- a log grows: it has what it had, and then what was added
+abbrev pub LogGrows : (old new : List Record) → Type 0
+LogGrows old new = (more : List Record) × (new ≡ old ++ more)
 
 -- an image of a log is one of each longer log
 abbrev pub ImagesStay : Type 0

@@ -6,7 +6,7 @@ ghost use Rattle.steps.specs.Schedules.{AdvancesAs, BeginsAs, FinishesAs, GivesU
 ghost use Rattle.workers.specs.Streams.{SendsAs, StreamsAs};
 ghost use Rattle.workers.specs.Claims.{is_call};
 ghost use Rattle.commitlog.specs.Histories.{phase_of};
-ghost use Rattle.workers.specs.Checkpointed.{AreCuts, GoesOn, ImagesStay, KeepsOrigin, TakesInto, call_count, last_image};
+ghost use Rattle.workers.specs.Checkpointed.{AreCuts, LogGrows, ImagesStay, KeepsOrigin, TakesInto, call_count, last_image};
 
 use crate::copies::copy_of_image;
 use commitlog::laws::{cuts_law, images_law};
@@ -116,7 +116,7 @@ impl<A: Allocator> Checkpointed<A> {
         ensures core { StartsAs self.old.core self.new.core kind result }
         ensures images { self.new.images ≡ self.old.images }
         ensures origin { KeepsOrigin self.old.core self.new.core }
-        ensures log { GoesOn self.old.core.log self.new.core.log }
+        ensures log { LogGrows self.old.core.log self.new.core.log }
         ensures calls { call_count self.new.core.log ≡ call_count self.old.core.log }
     {
         images_stay_law();
@@ -128,7 +128,7 @@ impl<A: Allocator> Checkpointed<A> {
         ensures core { StreamsAs self.old.core self.new.core kind result }
         ensures images { self.new.images ≡ self.old.images }
         ensures origin { KeepsOrigin self.old.core self.new.core }
-        ensures log { GoesOn self.old.core.log self.new.core.log }
+        ensures log { LogGrows self.old.core.log self.new.core.log }
         ensures calls { call_count self.new.core.log ≡ call_count self.old.core.log }
     {
         images_stay_law();
@@ -187,7 +187,7 @@ impl<A: Allocator + Clone> Checkpointed<A> {
         ensures core { FinishesAs self.old.core self.new.core session result }
         ensures images { self.new.images ≡ self.old.images }
         ensures origin { KeepsOrigin self.old.core self.new.core }
-        ensures log { GoesOn self.old.core.log self.new.core.log }
+        ensures log { LogGrows self.old.core.log self.new.core.log }
         ensures calls { MatchResult result (λ _. call_count self.new.core.log ≡ call_count self.old.core.log + 1) (λ _. call_count self.new.core.log ≡ call_count self.old.core.log) }
     {
         images_stay_law();
@@ -199,7 +199,7 @@ impl<A: Allocator + Clone> Checkpointed<A> {
         ensures core { AdvancesAs self.old.core self.new.core result }
         ensures images { self.new.images ≡ self.old.images }
         ensures origin { KeepsOrigin self.old.core self.new.core }
-        ensures log { GoesOn self.old.core.log self.new.core.log }
+        ensures log { LogGrows self.old.core.log self.new.core.log }
         ensures calls { call_count self.new.core.log ≡ call_count self.old.core.log }
     {
         images_stay_law();

@@ -48,7 +48,7 @@ struct Locking<
     P: Listener<Image<A>>,
 > {
     rt: &'a R,
-    shared: &'a Shared<L, A, K>,
+    shared: &'a Shared<L, K, A>,
     gate: &'a G,
     listener: &'a mut P,
 }
@@ -108,7 +108,7 @@ pub(crate) fn make_from<
     P: Listener<Image<A>>,
 >(
     rt: &R,
-    shared: &Shared<L, A, K>,
+    shared: &Shared<L, K, A>,
     kinds: &[Kind],
     from: usize,
     turns: u64,
@@ -134,7 +134,7 @@ pub fn run_checkpoints<
     K: Keeper<A> + Drop,
     R: Wait,
     G: Gate,
->(rt: &R, shared: &Shared<L, A, K>, kinds: &[Kind], turns: u64, gate: &G) -> Progress
+>(rt: &R, shared: &Shared<L, K, A>, kinds: &[Kind], turns: u64, gate: &G) -> Progress
     ensures { IsWithin (length kinds.now) result }
 {
     make_from(rt, shared, kinds, 0, turns, gate, &mut Deaf)

@@ -417,7 +417,7 @@ fn run_out<L: Beginning<NoKeeper>, R: Wait>(
     requires origin { IsFrom L.catalog L.opening core }
     requires some { 0 < L.parts }
 {
-    let (shared, tally) = Shared::<L, Global, NoKeeper>::new(
+    let (shared, tally) = Shared::<L, NoKeeper, Global>::new(
         core,
         Vec::new(alloc),
         blank,

@@ -49,7 +49,7 @@ pub(crate) struct Work<A: Allocator> {
 
 fn run_work<L: Beginning<K>, A: Allocator + Clone, K: Keeper<A> + Drop, R: Wait, G: Gate>(
     rt: &R,
-    shared: &Shared<L, A, K>,
+    shared: &Shared<L, K, A>,
     tally: Tally<L>,
     work: Work<A>,
     gate: &G,
@@ -81,7 +81,7 @@ pub(crate) fn run_each<
     G: Gate + Sync,
 >(
     rt: &R,
-    shared: &Shared<L, A, K>,
+    shared: &Shared<L, K, A>,
     works: Vec<Work<A>, A>,
     tally: Tally<L>,
     shares: Vec<Share<(), A>, A>,
@@ -127,7 +127,7 @@ pub(crate) fn run_each<
 
 /// What threads leave.
 #[derive(Drop)]
-struct Ran<A: Allocator, K: Drop> {
+struct Ran<K: Drop, A: Allocator> {
     core: Core<A>,
     shares: Vec<Share<(), A>, A>,
     images: Vec<Image<A>, A>,
@@ -154,7 +154,7 @@ fn run_in<
     listener: &mut P,
     gate: &G,
     keeper: K,
-) -> Ran<A, K>
+) -> Ran<K, A>
     requires name { blank.name ≡ L.name }
     requires parts { (blank.parts ≡ L.parts) × (vec_len works < L.parts) }
     requires origin { IsFrom L.catalog L.opening core }
@@ -168,7 +168,7 @@ fn run_in<
     ensures within { IsWithin (length kinds.now) result.checkpoints }
     ensures kept { ∥ IfSome L.begun (λ b. K.Has b result.keeper result.core.log result.images.items) ∥₁ }
 {
-    let (shared, tally) = Shared::<L, A, K>::new(core, images, blank, keeper);
+    let (shared, tally) = Shared::<L, K, A>::new(core, images, blank, keeper);
     let lent = &shared;
     let heard = &mut *listener;
     let watch = move || -> Progress
@@ -380,7 +380,7 @@ pub fn run_kept<
 
 /// The report of what ran, and the keeper.
 fn report_of<J: Naming, Q: Wait + Drop, A: Allocator + Copy, K: Drop>(
-    ran: Ran<A, K>,
+    ran: Ran<K, A>,
     publisher: Publisher<J, Q, A>,
 ) -> (Report<J, Q, A>, K)
     ensures same { (result.0.core ≡ ran.core) × (result.0.shares ≡ ran.shares) × (result.0.images ≡ ran.images) × (result.0.checkpoints ≡ ran.checkpoints) }

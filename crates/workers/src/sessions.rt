@@ -20,7 +20,7 @@ use steps::{Answer, BeginError, FinishError, StepError, Stepped};
 #[derive(Drop)]
 struct Locking<'a, L: Beginning<K>, A: Allocator, K: Keeper<A> + Drop, R: Wait, G: Gate> {
     rt: &'a R,
-    shared: &'a Shared<L, A, K>,
+    shared: &'a Shared<L, K, A>,
     tally: Tally<L>,
     session: u16,
     gate: &'a G,
@@ -74,7 +74,7 @@ impl<'a, L: Beginning<K>, A: Allocator + Clone, K: Keeper<A> + Drop, R: Wait, G:
 pub fn run_session<L: Beginning<K>, A: Allocator + Clone, K: Keeper<A> + Drop, R: Wait, G: Gate>(
     rt: &R,
     answers: Vec<Response<A>, A>,
-    shared: &Shared<L, A, K>,
+    shared: &Shared<L, K, A>,
     tally: Tally<L>,
     session: u16,
     calls: &[Call<A>],

@@ -77,7 +77,7 @@ fn tell_image<A: Allocator, K: Keeper<A>>(keeper: &mut K, held: &Checkpointed<A>
 /// the book of a ledger whose total is the number of the log's calls, and a keeper that was told of the log and the
 /// images. Each method is one call of the core.
 #[derive(Drop)]
-pub struct Locked<L: Beginning<K>, A: Allocator, K: Keeper<A> + Drop> {
+pub struct Locked<L: Beginning<K>, K: Keeper<A> + Drop, A: Allocator> {
     held: Checkpointed<A>,
     calls: Book<L>,
     keeper: K,
@@ -86,7 +86,7 @@ pub struct Locked<L: Beginning<K>, A: Allocator, K: Keeper<A> + Drop> {
     ghost kept: { ∥ IfSome L.begun (λ b. K.Has b keeper held.core.log held.images) ∥₁ },
 }
 
-impl<L: Beginning<K>, A: Allocator + Clone, K: Keeper<A> + Drop> Locked<L, A, K> {
+impl<L: Beginning<K>, K: Keeper<A> + Drop, A: Allocator + Clone> Locked<L, K, A> {
     pub fn begin(
         &mut self,
         session: u16,
@@ -226,11 +226,11 @@ impl<L: Beginning<K>, A: Allocator + Clone, K: Keeper<A> + Drop> Locked<L, A, K>
 
 /// A core under its lock.
 #[derive(Drop)]
-pub struct Shared<L: Beginning<K>, A: Allocator, K: Keeper<A> + Drop> {
-    pub(crate) lock: Mutex<Locked<L, A, K>>,
+pub struct Shared<L: Beginning<K>, K: Keeper<A> + Drop, A: Allocator> {
+    pub(crate) lock: Mutex<Locked<L, K, A>>,
 }
 
-impl<L: Beginning<K>, A: Allocator, K: Keeper<A> + Drop> Shared<L, A, K> {
+impl<L: Beginning<K>, K: Keeper<A> + Drop, A: Allocator> Shared<L, K, A> {
     /// A core under a lock, and the whole tally, whose amount is the number of calls that the log has. The
     /// images go into the list, which is empty. The keeper has what the log has.
     pub fn new(core: Core<A>, images: Vec<Image<A>, A>, blank: Blank, keeper: K) -> (Self, Tally<L>)

@@ -58,7 +58,7 @@ fn run_beside<
     G: Gate + Sync,
 >(
     rt: &R,
-    shared: &Shared<L, A, K>,
+    shared: &Shared<L, K, A>,
     works: Vec<Work<A>, A>,
     tally: Tally<L>,
     shares: Vec<Share<(), A>, A>,
@@ -118,7 +118,7 @@ fn stream_in<
         parts: _,
     } = room;
     let (tap, drain) = ends;
-    let (shared, tally) = Shared::<L, A, NoKeeper>::new(core, images, blank, NoKeeper);
+    let (shared, tally) = Shared::<L, NoKeeper, A>::new(core, images, blank, NoKeeper);
     let lent = &shared;
     let ended = AtomicBool::new(false);
     let over = &ended;

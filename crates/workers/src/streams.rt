@@ -40,7 +40,7 @@ const MOVES: usize = 4;
 /// Visits the places that the scan has left, at most this many. It stops where the ring is full.
 fn send_rest<L: Beginning<K>, A: Allocator + Clone, K: Keeper<A> + Drop, R: Wait, G: Gate>(
     rt: &R,
-    shared: &Shared<L, A, K>,
+    shared: &Shared<L, K, A>,
     tap: &mut Tap<A>,
     places: usize,
     gate: &G,
@@ -61,7 +61,7 @@ fn send_rest<L: Beginning<K>, A: Allocator + Clone, K: Keeper<A> + Drop, R: Wait
 /// Sends what the scan has left, and enters the next phase.
 fn move_on<L: Beginning<K>, A: Allocator + Clone, K: Keeper<A> + Drop, R: Wait, G: Gate>(
     rt: &R,
-    shared: &Shared<L, A, K>,
+    shared: &Shared<L, K, A>,
     tap: &mut Tap<A>,
     gate: &G,
 ) -> Result<Phase, CheckpointRefusal>
@@ -79,7 +79,7 @@ fn move_on<L: Beginning<K>, A: Allocator + Clone, K: Keeper<A> + Drop, R: Wait, 
 /// Enters one phase after another.
 fn go_on<L: Beginning<K>, A: Allocator + Clone, K: Keeper<A> + Drop, R: Wait, G: Gate>(
     rt: &R,
-    shared: &Shared<L, A, K>,
+    shared: &Shared<L, K, A>,
     tap: &mut Tap<A>,
     gate: &G,
 ) -> Result<Reached, CheckpointRefusal>
@@ -100,7 +100,7 @@ fn go_on<L: Beginning<K>, A: Allocator + Clone, K: Keeper<A> + Drop, R: Wait, G:
 /// Brings a streamed checkpoint to its end, while another drains.
 fn stream<L: Beginning<K>, A: Allocator + Clone, K: Keeper<A> + Drop, R: Wait, G: Gate>(
     rt: &R,
-    shared: &Shared<L, A, K>,
+    shared: &Shared<L, K, A>,
     tap: &mut Tap<A>,
     turns: u64,
     gate: &G,
@@ -120,7 +120,7 @@ fn stream<L: Beginning<K>, A: Allocator + Clone, K: Keeper<A> + Drop, R: Wait, G
 /// Begins a streamed checkpoint and brings it to its end, while another drains. Without turns none begins.
 fn begin<L: Beginning<K>, A: Allocator + Clone, K: Keeper<A> + Drop, R: Wait, G: Gate>(
     rt: &R,
-    shared: &Shared<L, A, K>,
+    shared: &Shared<L, K, A>,
     kind: Kind,
     tap: &mut Tap<A>,
     turns: u64,
@@ -148,7 +148,7 @@ pub(crate) fn stream_beside<
     G: Gate,
 >(
     rt: &R,
-    shared: &Shared<L, A, K>,
+    shared: &Shared<L, K, A>,
     kind: Kind,
     tap: Tap<A>,
     ended: &AtomicBool,
@@ -203,7 +203,7 @@ pub(crate) fn drain_beside<A: Allocator>(
 /// Brings a streamed checkpoint to its end, and drains in between.
 fn stream_alone<L: Beginning<K>, A: Allocator + Clone, K: Keeper<A> + Drop, R: Wait, G: Gate>(
     rt: &R,
-    shared: &Shared<L, A, K>,
+    shared: &Shared<L, K, A>,
     tap: &mut Tap<A>,
     drain: &mut Drain<A>,
     turns: u64,
@@ -232,7 +232,7 @@ pub(crate) fn stream_left<
     G: Gate,
 >(
     rt: &R,
-    shared: &Shared<L, A, K>,
+    shared: &Shared<L, K, A>,
     streamed: Streamed,
     tap: &mut Tap<A>,
     drain: &mut Drain<A>,

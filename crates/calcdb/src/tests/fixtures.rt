@@ -1,6 +1,6 @@
 //! Scripts, openings, cores and runs.
 
-use crate::engine::{RanKept, run_script};
+use crate::engine::{RanWithImages, run_script};
 use crate::faults::Fault;
 use crate::pairs::load;
 use crate::scripts::read_schedule;
@@ -99,7 +99,7 @@ pub(crate) fn run_over<A: Allocator + Copy>(
     pairs: &str,
     source: &mut Source<'_>,
     sink: &mut Sink,
-) -> Result<Result<RanKept<A>, Fault>, Fail> {
+) -> Result<Result<RanWithImages<A>, Fault>, Fail> {
     let opening = opening_of(alloc, pairs)?;
     let ran = run_script(alloc, source, sink, Vec::new(alloc), opening);
     check_failures(rt, ran.as_ref().err(), source, sink);
@@ -126,7 +126,7 @@ pub(crate) fn check_over<R: Abort + AllocGlobal>(
     script: &str,
     pairs: &str,
     answers: &str,
-) -> Result<RanKept<Global>, Fail> {
+) -> Result<RanWithImages<Global>, Fail> {
     let mut source = Source::new(script.as_bytes(), PLENTY, PLENTY);
     let mut sink = Sink::new(rt.alloc(), PLENTY, PLENTY);
     let ran = run_over(rt, rt.alloc(), pairs, &mut source, &mut sink)?;

@@ -1,6 +1,7 @@
 //! Runs in threads that are kept up in a folder in memory, whose log fails at each call in turn.
 
-use crate::engine::RanKept;
+use crate::engine::RanWithImages;
+use crate::journals::Stop;
 use crate::live_runs::LiveRun;
 use crate::tests::console::check_rows;
 use crate::tests::devices::{PLENTY, Sink, Source};
@@ -9,8 +10,7 @@ use crate::tests::growths::{Fallible, MOST};
 use crate::tests::live_runs::LogDevice;
 use crate::tests::run_folders::MemoryFolder;
 use crate::tests::thread_runs::SCRIPT;
-use crate::thread_journals::ThreadJournal;
-use crate::threads::run_threads;
+use crate::threads::{CarriedOut, run_threads};
 use image::Image;
 use std::alloc::{Allocator, Global};
 use std::io::{Read, Write};
@@ -22,16 +22,23 @@ use workers::Open;
 /// What a run leaves.
 #[derive(Clone, Copy, Debug, PartialEq, Eq)]
 enum Left {
-    /// It wasn't carried out, and wrote nothing.
+    /// It wasn't carried out, and wrote a line at most: its log has no record.
     Nothing,
     /// Its log failed: it wrote nothing, and what went out is a front of the core's log.
     Front,
     /// It wrote its lines, and its folder has the whole log and all images.
     Whole,
-    /// Its output failed, and its folder has a front of its log.
+    /// It wrote a beginning of its lines, and its folder has the whole log and all images.
     Unwritten,
     Wrong,
 }
+
+/// How many bytes a log without records has.
+const HEADER: usize = 72;
+
+/// A core with its images, if the run was carried out, and whether its lines were written; its folder; and whether
+/// its log failed.
+type Lived<A> = (Option<(RanWithImages<A>, bool)>, Live, bool);
 
 type Live = LiveRun<MemoryFolder, LogDevice>;
 
@@ -48,21 +55,30 @@ fn taken(live: Live, global: Global) -> (usize, Vec<u8, Global>) {
 fn left_by<A: Allocator + Copy>(
     global: Global,
     alloc: A,
-    (ran, live, has_failed): (RanKept<A>, Live, bool),
+    (ran, live, has_failed): Lived<A>,
     lines: usize,
 ) -> Result<Left, Fail> {
     let (files, log) = taken(live, global);
+    let Some((ran, is_written)) = ran else {
+        let is_unbegun = lines <= 1 && log.len() <= HEADER;
+        return Ok(if is_unbegun {
+            Left::Nothing
+        } else {
+            Left::Wrong
+        });
+    };
     let whole = log_of_core(alloc, &ran.core)?;
     let whole = whole.as_slice();
     let is_whole = log.as_slice() == whole && files == ran.images.len().saturating_add(1);
-    Ok(match (has_failed, lines) {
-        (false, 5) if is_whole => Left::Whole,
-        (true, 0) if whole.starts_with(log.as_slice()) => Left::Front,
+    Ok(match (has_failed, is_written) {
+        (false, true) if is_whole && lines == 5 => Left::Whole,
+        (false, false) if is_whole && lines < 5 => Left::Unwritten,
+        (true, true) if whole.starts_with(log.as_slice()) && lines == 0 => Left::Front,
         _ => Left::Wrong,
     })
 }
 
-/// What a run hands back that was carried out, and whether its journal failed.
+/// Runs a script in a folder.
 fn run_live<T: Threads + Wait + Sync, I: Read, O: Write, A: Allocator + Copy + Send + Sync>(
     rt: &T,
     alloc: A,
@@ -70,21 +86,18 @@ fn run_live<T: Threads + Wait + Sync, I: Read, O: Write, A: Allocator + Copy + S
     source: &mut I,
     sink: &mut O,
     opening: Image<A>,
-) -> Option<(RanKept<A>, Live, bool)> {
+) -> Lived<A> {
     let ran = run_threads(rt, alloc, &(), live, source, sink, opening, &Open);
     match ran {
-        Ok((ran, kept)) => {
-            let ThreadJournal {
+        Ok(
+            CarriedOut {
+                ran,
                 journal,
                 failure,
-                ..
-            } = kept;
-            Some((ran, journal, failure.is_some()))
-        }
-        Err(stop) => {
-            drop(stop);
-            None
-        }
+                written,
+            },
+        ) => (Some((ran, written.is_ok())), journal, failure.is_some()),
+        Err((stop, journal)) => (None, journal, matches!(stop, Stop::Journal(_))),
     }
 }
 
@@ -110,12 +123,7 @@ fn run_in_folder<T: Threads + Wait + Sync>(
     let met = heap.asked() >= refused;
     heap.arm(0);
     let lines = sink.kept.split_inclusive(|byte| *byte == b'\n').count();
-    let left = match ran {
-        Some(ran) => left_by(global, heap, ran, lines)?,
-        None if lines == 0 => Left::Nothing,
-        None => Left::Unwritten,
-    };
-    Ok((left, met))
+    Ok((left_by(global, heap, ran, lines)?, met))
 }
 
 /// How many calls of its log a run wants; with fewer it leaves nothing, or a front.

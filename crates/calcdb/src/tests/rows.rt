@@ -2,7 +2,7 @@
 //! texts of other tables.
 
 use crate::commands::{Arguments, Command, NewCall};
-use crate::engine::RanKept;
+use crate::engine::RanWithImages;
 use crate::run::{Shown, push_shown};
 use crate::scripts::{Schedule, Script, read_schedule};
 use crate::tests::fixtures::{check_over, opening_of, script_of};
@@ -152,7 +152,7 @@ pub(crate) fn script_of_row(alloc: Global, row: &Row<'_>) -> Result<String<Globa
 pub(crate) fn check_row<R: Abort + AllocGlobal>(
     rt: &R,
     row: &Row<'_>,
-) -> Result<RanKept<Global>, Fail> {
+) -> Result<RanWithImages<Global>, Fail> {
     let script = script_of_row(rt.alloc(), row)?;
     let answers = answers_of(rt.alloc(), row.lines.as_slice())?;
     let (text, pairs) = (script.as_str(), row.opening.as_str());

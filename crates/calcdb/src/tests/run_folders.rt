@@ -3,7 +3,7 @@
 ghost use Rattle.std.specs.Prelude.{◌≡◌};
 
 use crate::digesting::Telling;
-use crate::engine::RanKept;
+use crate::engine::RanWithImages;
 use crate::faults::failures::{Failure, OutFile, RunFile};
 use crate::run_folder::{RunFolder, write_run};
 use crate::tests::devices::PLENTY;
@@ -142,7 +142,7 @@ fn check_image(
 pub(crate) fn check_files(
     rt: &impl Abort,
     folder: &MemoryFolder,
-    ran: &RanKept<Global>,
+    ran: &RanWithImages<Global>,
 ) -> Result<(), Fail> {
     check_image(rt, folder, 0, ran.core.opening())?;
     for (place, image) in ran.images.iter().enumerate() {
@@ -157,7 +157,7 @@ pub(crate) fn check_files(
 fn made_in<R: Abort>(
     rt: &R,
     alloc: Global,
-    ran: &RanKept<Global>,
+    ran: &RanWithImages<Global>,
     room: usize,
 ) -> Result<(bool, usize), Fail> {
     let mut folder = MemoryFolder::new(alloc, room);
@@ -170,7 +170,11 @@ fn made_in<R: Abort>(
 
 /// Of folders with room for 0 to 4 files, in how many files are made in their order until there is no room for
 /// one.
-fn count_filled<R: Abort>(rt: &R, alloc: Global, ran: &RanKept<Global>) -> Result<usize, Fail> {
+fn count_filled<R: Abort>(
+    rt: &R,
+    alloc: Global,
+    ran: &RanWithImages<Global>,
+) -> Result<usize, Fail> {
     let mut filled = 0usize;
     for room in 0..=4 {
         if made_in(rt, alloc, ran, room)? == (room == 4, room) {

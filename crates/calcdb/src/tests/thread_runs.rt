@@ -6,7 +6,7 @@ use crate::tests::console::check_rows;
 use crate::tests::devices::{PLENTY, Sink, Source};
 use crate::tests::fixtures::opening_of;
 use crate::tests::growths::{EVERY, Fallible, MOST};
-use crate::threads::run_threads;
+use crate::threads::{CarriedOut, run_threads};
 use image::Image;
 use std::alloc::{Allocator, Global};
 use std::io::{Read, Write};
@@ -104,12 +104,12 @@ fn fault_of<T: Threads + Wait + Sync, I: Read, O: Write, A: Allocator + Copy + S
 ) -> Option<Fault> {
     let ran = run_threads(rt, alloc, &(), NoJournal, source, sink, opening, &Open);
     match ran {
-        Ok((ran, _)) => {
+        Ok(CarriedOut { ran, written, .. }) => {
             drop(ran);
-            None
+            written.err()
         }
-        Err(Stop::Fault(fault)) => Some(fault),
-        Err(Stop::Journal(never)) => match never {},
+        Err((Stop::Fault(fault), _)) => Some(fault),
+        Err((Stop::Journal(never), _)) => match never {},
     }
 }
 

@@ -1,5 +1,5 @@
-use Rattle.std.proofs.Common.{sym, ◌∙◌, length}
-use Rattle.calcdb.specs.Journals.{images_given, with_more}
+use Rattle.std.proofs.Common.{sym, ◌∙◌}
+use Rattle.calcdb.specs.Journals.{images_given}
 use Rattle.calcdb.proofs.ThreadJournals.{told_all, told_front, told_had}
 use Rattle.calcdb.proofs.thread_journals.tell.Goals as goal
 
@@ -9,5 +9,5 @@ returns-then-is_some g c = λ start t h.
 
 pub returns-in-Err : goal.returns-in-Err
 returns-in-Err g c = λ start t h.
-    told_front g.J.Journal.Has g.J.Journal.HasFront start c.take.new.self c.in-Err.refused (with_more t c.args.records.now (images_given c.args.image)) (length t.records)
+    told_front g.J.Journal.Has g.J.Journal.HasFront start c.take.new.self c.in-Err.refused t c.args.records.now (images_given c.args.image)
     (c.in-Err.ensures.err start t (told_all g.J.Journal.Has g.J.Journal.HasFront start c.args.journal.now c.args.failure.now t (sym c.is_some.ensures ∙ c.if-is_some.false) h))

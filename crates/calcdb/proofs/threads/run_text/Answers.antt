@@ -1,5 +1,8 @@
+use Rattle.std.proofs.Common.{◌≡◌, sym, subst}
 use Rattle.std.proofs.lemmas.Result.{IfErr-weaker}
-use Rattle.calcdb.specs.ThreadOutcomes.{EndsInThreads}
+use mathlib.Core.Logic.{∥∥₁_map}
+use Rattle.calcdb.specs.Journals.{LeavesUnrun}
+use Rattle.calcdb.specs.ThreadOutcomes.{NotCarriedOut}
 use Rattle.calcdb.specs.Scripts.{thread_script_of}
 use Rattle.calcdb.proofs.FailedReads.{in_threads, refusing_script}
 use Rattle.calcdb.proofs.ThreadEnds.{ok_with}
@@ -11,7 +14,14 @@ pub returns-in-Ok-clause-run : goal.returns-in-Ok-clause-run
 returns-in-Ok-clause-run g c =
     let reads = read_as thread_script_of c.args.text.items c.as_slice.result.now c.read_thread_script-read.result c.in-Ok.script c.as_slice.ensures.value c.in-Ok.is c.read_thread_script-read.ensures in
     ok_with c.run_opened.result _ _ _ (λ r h from. record { lawful = c.requires; script = c.in-Ok.script; reads = reads; origin = from; writes = h })
-    c.run_opened.ensures.ok c.run_opened.ensures.origin
+    c.run_opened.ensures.written c.run_opened.ensures.origin
+
+pub returns-in-Ok-clause-left : goal.returns-in-Ok-clause-left
+returns-in-Ok-clause-left g c =
+    let reads = read_as thread_script_of c.args.text.items c.as_slice.result.now c.read_thread_script-read.result c.in-Ok.script c.as_slice.ensures.value c.in-Ok.is c.read_thread_script-read.ensures in
+    IfErr-weaker c.run_opened.result _ _
+    (λ e h. ∥∥₁_map h (λ left. subst (λ says. LeavesUnrun says c.args.opening (e.1 ≡ c.args.journal) (g.N.Journal.Has c.args.journal e.1) (g.N.Journal.HasFront c.args.journal e.1) e.0) (sym reads) left))
+    c.run_opened.ensures.left
 
 pub returns-in-Ok-clause-fault : goal.returns-in-Ok-clause-fault
 returns-in-Ok-clause-fault g c =
@@ -19,7 +29,7 @@ returns-in-Ok-clause-fault g c =
     let old = g.W.Write.contents c.args.writer.now in
     let new = g.W.Write.contents c.run_opened.new.writer in
     IfErr-weaker c.run_opened.result _ _
-    (λ s h. stops_so _ (EndsInThreads (thread_script_of c.args.text.items) c.args.opening old new) s (λ f h. ends_run (thread_script_of c.args.text.items) c.args.opening old new c.in-Ok.script f c.requires reads h) (λ u. u) h)
+    (λ e h. stops_so _ (NotCarriedOut (thread_script_of c.args.text.items) c.args.opening old new) e.0 (λ f h. ends_run (thread_script_of c.args.text.items) c.args.opening old new c.in-Ok.script f c.requires reads h) (λ u. u) h)
     c.run_opened.ensures.err
 
 pub returns-in-Err-clause-fault : goal.returns-in-Err-clause-fault
@@ -31,7 +41,7 @@ returns-in-Err-clause-fault g c =
 pub returns-in-Ok-clause-unread : goal.returns-in-Ok-clause-unread
 returns-in-Ok-clause-unread g c =
     IfErr-weaker c.run_opened.result _ _
-    (λ s h. stops_if_fault _ _ _ s (λ f h. in_threads (g.W.Write.contents c.args.writer.now) (g.W.Write.contents c.run_opened.new.writer) f _ _ h) h) c.run_opened.ensures.err
+    (λ e h. stops_if_fault _ _ _ e.0 (λ f h. in_threads (g.W.Write.contents c.args.writer.now) (g.W.Write.contents c.run_opened.new.writer) f h) h) c.run_opened.ensures.err
 
 pub returns-in-Err-clause-unread : goal.returns-in-Err-clause-unread
 returns-in-Err-clause-unread g c =

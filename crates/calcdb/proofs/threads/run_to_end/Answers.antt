@@ -1,5 +1,5 @@
 use denote.Param.Send.{copied_send, copied_sync, param_send, param_sync}
-use Rattle.calcdb.proofs.ThreadJournals.{told_after}
+use Rattle.calcdb.proofs.ThreadJournals.{still_begun, told_after}
 use Rattle.calcdb.proofs.threads.run_to_end.Goals as goal
 
 pub run_kept-ran-requires-send-J : goal.run_kept-ran-requires-send-J
@@ -36,3 +36,6 @@ pub invariant_of-ended-clause-told : goal.invariant_of-ended-clause-told
 invariant_of-ended-clause-told g c =
     told_after g.K.Keeper.Has g.J.Beginning.begun c.args.named.keeper _ _ c.from_parts-taken.result.core _ c.from_parts-taken.result.images c.from_parts-taken.ensures.core c.from_parts-taken.ensures.images c.args.named.begun
     c.in-Ok.ensures.kept
+
+pub invariant_of-untold : goal.invariant_of-untold
+invariant_of-untold g c = record { begun = still_begun g.J.Beginning.begun c.args.named.keeper _ c.in-Err.ensures.err.2 c.args.named.begun }

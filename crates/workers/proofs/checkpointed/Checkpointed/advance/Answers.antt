@@ -1,6 +1,6 @@
 use Rattle.std.proofs.Common.{ap, ◌∙◌, subst, add-zero}
 use Rattle.steps.specs.Schedules.{AdvancesAs}
-use Rattle.workers.specs.Checkpointed.{Checkpointed, GoesOn, KeepsOrigin, call_count}
+use Rattle.workers.specs.Checkpointed.{Checkpointed, LogGrows, KeepsOrigin, call_count}
 use Rattle.workers.proofs.CoreGrowth.{advances}
 use Rattle.workers.proofs.Growth.{count_grows, cuts_grow, origin_grows}
 use Rattle.workers.proofs.checkpointed.Checkpointed.advance.Goals as goal
@@ -36,7 +36,7 @@ returns-clause-log g c =
     let new = c.advance.new.self in
     let h : AdvancesAs old new c.advance.result = record { advanced = e.advanced; phase = e.phase; refused = e.refused; refusal = e.refusal } in
     let grown = advances old new c.advance.result h in
-    subst (λ (v : Checkpointed). GoesOn v.core.log new.log) c.self.view_is (grown.more, grown.log)
+    subst (λ (v : Checkpointed). LogGrows v.core.log new.log) c.self.view_is (grown.more, grown.log)
 
 pub returns-clause-origin : goal.returns-clause-origin
 returns-clause-origin g c =

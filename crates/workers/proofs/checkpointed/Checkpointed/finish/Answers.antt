@@ -1,6 +1,6 @@
 use Rattle.std.proofs.Common.{ap, subst}
 use Rattle.steps.specs.Schedules.{FinishesAs}
-use Rattle.workers.specs.Checkpointed.{Checkpointed, GoesOn, KeepsOrigin, call_count}
+use Rattle.workers.specs.Checkpointed.{Checkpointed, LogGrows, KeepsOrigin, call_count}
 use Rattle.workers.proofs.CoreGrowth.{finishes, added, counted}
 use Rattle.workers.proofs.Growth.{count_grows, cuts_grow, origin_grows}
 use Rattle.workers.proofs.checkpointed.Checkpointed.finish.Goals as goal
@@ -36,7 +36,7 @@ returns-clause-log g c =
     let new = c.finish.new.self in
     let h : FinishesAs old new c.args.session c.finish.result = record { finished = e.finished; answer = e.answer; refused = e.refused; refusal = e.refusal } in
     let grown = finishes old new c.args.session c.finish.result h in
-    subst (λ (v : Checkpointed). GoesOn v.core.log new.log) c.self.view_is (grown.more, grown.log)
+    subst (λ (v : Checkpointed). LogGrows v.core.log new.log) c.self.view_is (grown.more, grown.log)
 
 pub returns-clause-origin : goal.returns-clause-origin
 returns-clause-origin g c =

@@ -1,6 +1,6 @@
 use Rattle.std.proofs.Common.{ap, ◌∙◌, subst, add-zero}
 use Rattle.steps.specs.Schedules.{StartsAs}
-use Rattle.workers.specs.Checkpointed.{Checkpointed, GoesOn, KeepsOrigin, call_count}
+use Rattle.workers.specs.Checkpointed.{Checkpointed, LogGrows, KeepsOrigin, call_count}
 use Rattle.workers.proofs.CoreGrowth.{starts}
 use Rattle.workers.proofs.Growth.{count_grows, cuts_grow, origin_grows}
 use Rattle.workers.proofs.checkpointed.Checkpointed.start.Goals as goal
@@ -36,7 +36,7 @@ returns-clause-log g c =
     let new = c.start.new.self in
     let h : StartsAs old new c.args.kind c.start.result = record { started = e.started; number = e.number; refused = e.refused; refusal = e.refusal } in
     let grown = starts old new c.args.kind c.start.result h in
-    subst (λ (v : Checkpointed). GoesOn v.core.log new.log) c.self.view_is (grown.more, grown.log)
+    subst (λ (v : Checkpointed). LogGrows v.core.log new.log) c.self.view_is (grown.more, grown.log)
 
 pub returns-clause-origin : goal.returns-clause-origin
 returns-clause-origin g c =

@@ -1,6 +1,6 @@
 use Rattle.std.proofs.Common.{ap, ◌∙◌, subst, add-zero}
 use Rattle.workers.specs.Streams.{StreamsAs}
-use Rattle.workers.specs.Checkpointed.{Checkpointed, GoesOn, KeepsOrigin, call_count}
+use Rattle.workers.specs.Checkpointed.{Checkpointed, LogGrows, KeepsOrigin, call_count}
 use Rattle.workers.proofs.CoreGrowth.{streams}
 use Rattle.workers.proofs.Growth.{count_grows, cuts_grow, origin_grows}
 use Rattle.workers.proofs.checkpointed.Checkpointed.start_streamed.Goals as goal
@@ -36,7 +36,7 @@ returns-clause-log g c =
     let new = c.start_streamed.new.self in
     let h : StreamsAs old new c.args.kind c.start_streamed.result = record { started = e.started; number = e.number; refused = e.refused; refusal = e.refusal } in
     let grown = streams old new c.args.kind c.start_streamed.result h in
-    subst (λ (v : Checkpointed). GoesOn v.core.log new.log) c.self.view_is (grown.more, grown.log)
+    subst (λ (v : Checkpointed). LogGrows v.core.log new.log) c.self.view_is (grown.more, grown.log)
 
 pub returns-clause-origin : goal.returns-clause-origin
 returns-clause-origin g c =
