@@ -136,7 +136,9 @@ def main():
         for time_of in range(given.times):
             folder = Path(top) / str(time_of)
             folder.mkdir()
-            printed, had_ended = killed(program, script, folder, random.uniform(0, whole), options)
+            # A run in threads makes its calls first, and audits them after.
+            until = whole / 2 if given.threads else whole
+            printed, had_ended = killed(program, script, folder, random.uniform(0, until), options)
             found = check(program, script, made, folder, printed, given.threads)
             answers, more, agreed, ended = answers + found[0], more + found[1], agreed + found[2], ended + had_ended
             subprocess.run(["rm", "-r", folder], check=True)
