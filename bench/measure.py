@@ -20,6 +20,7 @@ PAIRS = 100_000
 CHAIN = 64
 DEAD = 20_000
 SYNCED = 1_000
+SESSIONS = 8
 
 PROCEDURES = """\
 proc dep 2
@@ -88,9 +89,9 @@ class Bench:
         return out
 
 
-def deposits(count, keys, first=1):
-    """Calls that each add one to some key, in an order that jumps about."""
-    return [f"call 0 {first + at} dep 'k{at * 7919 % keys} #1" for at in range(count)]
+def deposits(count, keys, first=1, sessions=1):
+    """Calls that each add one to some key, in an order that jumps about, of the sessions in turn."""
+    return [f"call {at % sessions} {first + at // sessions} dep 'k{at * 7919 % keys} #1" for at in range(count)]
 
 
 def per(seconds, count):
@@ -124,6 +125,11 @@ def measure(bench):
     took = bench.seconds("run", script, "--open", opening, "--out", out)
     yield "the same, with its files written", f"{took * 1e3:10.1f} ms"
     took = bench.kept_up("run", script, "--open", opening)
+    yield "the same, kept up", f"{took * 1e3:10.1f} ms"
+    shared = bench.file("shared", PROCEDURES + "\n".join(deposits(LARGE_LOG, 1_000, sessions=SESSIONS)) + "\n")
+    took = bench.seconds("run", shared, "--open", opening, "--threads")
+    yield f"so many calls of {SESSIONS} sessions, in threads", f"{took * 1e3:10.1f} ms"
+    took = bench.kept_up("run", shared, "--open", opening, "--threads")
     yield "the same, kept up", f"{took * 1e3:10.1f} ms"
     short = bench.file("short", PROCEDURES + "\n".join(deposits(SYNCED, 1_000)) + "\n")
     took = bench.kept_up("run", short, "--open", opening, "--sync") - bench.seconds("run", short, "--open", opening)
