@@ -9,6 +9,7 @@ pub mod Declined
 pub mod Digested
 pub mod Endings
 pub mod FailedReads
+pub mod FirstBytes
 pub mod InstructionLines
 pub mod Keeping
 pub mod Lawful

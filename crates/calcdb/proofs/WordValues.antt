@@ -1,10 +1,12 @@
 -- The values that words are, word by word.
-use Rattle.std.proofs.Common.{◌≡◌, List, [], ◌∷◌, ◌++◌, Option, Some, None, refl, sym, ap, append_assoc}
+use Rattle.std.proofs.Common.{◌≡◌, ◌∙◌, Bool, true, false, List, [], ◌∷◌, ◌++◌, Option, Some, None, if◌then◌else◌, length, nat_le, refl, sym, ap, append_assoc}
 use Rattle.std.proofs.lemmas.List.{append-nil}
 use Rattle.procedure.specs.Bytes.{Bytes}
+use Rattle.procedure.specs.declared.limits.TheConstants.{VALUE_BYTES}
 use Rattle.calcdb.specs.Reads.{◌>>=◌}
 use Rattle.calcdb.specs.Lines.{first_word}
 use Rattle.calcdb.specs.Commands.{values_by}
+use Rattle.calcdb.specs.Values.{as_held, held_value_of, value_of}
 use Rattle.calcdb.proofs.Readers.{behind}
 
 behind-behind : {X : Type 0} (front : List X) (x : X) (read : Option (List X)) → behind front (read >>= λ xs. Some (x ∷ xs)) ≡ behind (front ++ x ∷ []) read
@@ -34,3 +36,31 @@ module _ (read : Bytes → Option Bytes) where
   unfolding values_by
   all_values front [] h = ap (λ (l : List Bytes). Some l) (append-nil front)
   all_values front (x ∷ ws) h = absurd (cc)
+
+fits_kept : {X : Type 0} (fits : Bool) (b : Bytes) (f : Bytes → Option X) (x : X) → ((if fits then Some b else None) >>= f) ≡ Some x → f b ≡ Some x
+fits_kept true b f x is = is
+fits_kept false b f x is = absurd (cc)
+
+held_word : {X : Type 0} (v : Option Bytes) (f : Bytes → Option X) (x : X) → ((v >>= as_held) >>= f) ≡ Some x → (v >>= f) ≡ Some x
+held_word None f x is = is
+held_word (Some b) f x is = fits_kept (nat_le (length b) VALUE_BYTES) b f x is
+
+held_next :
+    (b : Bytes) (held read : Option (List Bytes)) (vs : List Bytes) → ((xs : List Bytes) → held ≡ Some xs → read ≡ Some xs) → (held >>= λ xs. Some (b ∷ xs)) ≡ Some vs →
+    (read >>= λ xs. Some (b ∷ xs)) ≡ Some vs
+held_next b None read vs same is = absurd (cc)
+held_next b (Some xs) read vs same is = ap (λ (o : Option (List Bytes)). o >>= λ ys. Some (b ∷ ys)) (same xs refl) ∙ is
+
+held_rest :
+    (v : Option Bytes) (held read : Option (List Bytes)) (vs : List Bytes) → ((xs : List Bytes) → held ≡ Some xs → read ≡ Some xs) →
+    (v >>= λ b. held >>= λ xs. Some (b ∷ xs)) ≡ Some vs → (v >>= λ b. read >>= λ xs. Some (b ∷ xs)) ≡ Some vs
+held_rest None held read vs same is = is
+held_rest (Some b) held read vs same is = held_next b held read vs same is
+
+-- Values that are none too long for a key to hold are values.
+pub held_values : (ws vs : List Bytes) → values_by held_value_of ws ≡ Some vs → values_by value_of ws ≡ Some vs
+unfolding values_by
+held_values [] vs is = is
+held_values (w ∷ ws) vs is =
+    held_rest (value_of w) (values_by held_value_of ws) (values_by value_of ws) vs (held_values ws)
+    (held_word (value_of w) (λ b. values_by held_value_of ws >>= λ xs. Some (b ∷ xs)) vs is)

@@ -1,5 +1,5 @@
 -- What a script's commands do to a core, and what is printed of it.
-use Rattle.std.specs.Prelude.{◌≡◌, ◌⊎◌, true, false, ℕ, zero, suc, codes, List, [], ◌∷◌, ◌++◌, length, map, replicate, Option, Some, None, Result, Ok, Err, slice_get}
+use Rattle.std.specs.Prelude.{◌≡◌, ◌⊎◌, true, false, ℕ, zero, suc, codes, List, [], ◌∷◌, ◌++◌, length, replicate, Option, Some, None, Result, Ok, Err, slice_get}
 use Rattle.procedure.specs.Bytes.{Bytes}
 use Rattle.procedure.specs.Procedures.{Procedure}
 use Rattle.steps.specs.CoreViews.{CoreView}
@@ -99,7 +99,7 @@ module _ {A : Type 0} where
 
   -- the event by which a call begins
   abbrev pub Begins : NewCall (List Bytes) → Event A → Type 0
-  Begins c (event.Begin s n p args) = (s ≡ c.session) × (n ≡ c.number) × (p ≡ c.procedure) × (map (λ v. v.items) args.items ≡ c.args)
+  Begins c (event.Begin s n p args) = (s ≡ c.session) × (n ≡ c.number) × (p ≡ c.procedure) × (args ≡ c.args)
   Begins c (event.Step s) = ⊥
   Begins c (event.Finish s) = ⊥
   Begins c (event.GiveUp s) = ⊥

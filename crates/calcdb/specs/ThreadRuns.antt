@@ -12,7 +12,6 @@ use Rattle.steps.specs.CoreViews.{CoreView}
 use Rattle.workers.specs.Checkpointed.{AreCuts, call_count}
 use Rattle.calcdb.specs.Runs.{Sent}
 use Rattle.calcdb.specs.declared.faults.Fault.{Fault}
-use Rattle.calcdb.specs.declared.faults.Fault.TheVariants as fault
 use Rattle.calcdb.specs.declared.journals.Stop.{Stop}
 use Rattle.calcdb.specs.declared.journals.Stop.TheVariants as stop
 use Rattle.calcdb.specs.Output.{cell_text, numbered_text, value_text}

@@ -4,45 +4,17 @@ ghost use Rattle.std.specs.Prelude.{◌≡◌, ◌∷◌, List, map};
 ghost use Rattle.calcdb.specs.Reads.{ReadsAs, ReadsExactly};
 ghost use Rattle.calcdb.specs.Commands as spec;
 ghost use Rattle.calcdb.specs.Lines.{all_pass, words};
-ghost use Rattle.calcdb.specs.Values.{value_of};
+ghost use Rattle.calcdb.specs.Values.{held_value_of, value_of};
 
 use crate::faults::misreads::{Misread, Quote};
 use crate::faults::unread::Unread;
 use crate::instructions::is_word;
 use crate::lines::{count_words, end_of, first_word, word_at};
-use crate::values::{decimal_of, value_of};
+use crate::values::{decimal_of, held_of, value_of};
 use image::Kind;
-use procedure::{Key, KeyMap};
+use procedure::{Key, KeyMap, Sequence, Value};
 use std::alloc::Allocator;
-use std::marker::Model;
-
-/// The arguments of a call, of any length, seen by contracts as the list of them.
-#[derive(Drop)]
-pub(crate) struct Arguments<A: Allocator> {
-    values: Vec<Vec<u8, A>, A>,
-}
-
-impl<A: Allocator> Model for Arguments<A> {
-    ghost use Rattle.std.specs.Prelude.{List, map};
-    ghost use Rattle.std.specs.Coded.{coded_list, coded_ℕ};
-    ghost use Rattle.procedure.specs.Bytes.{Bytes};
-
-    ghost Value = { List Bytes };
-
-    ghost coded = { coded_list (coded_list coded_ℕ) };
-
-    ghost view = { λ a. map (λ v. v.items) a.values.items };
-}
-
-impl<A: Allocator> Arguments<A> {
-    /// The arguments, by move.
-    pub(crate) fn into_values(self) -> Vec<Vec<u8, A>, A>
-        ensures { map (λ v. v.items) result.items ≡ self }
-    {
-        let Arguments { values } = self;
-        values
-    }
-}
+use steps::Arguments;
 
 /// The call that a command begins.
 #[derive(Drop)]
@@ -183,9 +155,25 @@ pub(crate) fn procedure_at<'a, A: Allocator>(
     }
 }
 
-/// The values that the words of a line are.
-fn arguments_of<A: Allocator + Clone>(alloc: A, line: &[u8]) -> Result<Arguments<A>, Unread>
-    ensures { ReadsAs (λ a. a) result (spec.values_by value_of (words line.now)) }
+/// The values that the words of a line are, where none is too long for one.
+pub(crate) fn values_of<A: Allocator + Clone>(
+    alloc: A,
+    line: &[u8],
+) -> Result<Sequence<Value<A>, A>, Unread>
+    ensures { ReadsAs (λ v. v) result (spec.values_by held_value_of (words line.now)) }
+{
+    let mut values = Vec::with_capacity(alloc.clone()?, count_words(line))?;
+    let mut rest = line;
+    while let Some((word, behind)) = first_word(rest) {
+        values.push(held_of(alloc.clone()?, word)?)?;
+        rest = behind;
+    }
+    Ok(Sequence::new(values))
+}
+
+/// The bytes of any length that the words of a line are.
+fn bytes_of<A: Allocator + Clone>(alloc: A, line: &[u8]) -> Result<Vec<Vec<u8, A>, A>, Unread>
+    ensures { ReadsAs (λ v. map (λ b. b.items) v.items) result (spec.values_by value_of (words line.now)) }
 {
     let mut values = Vec::with_capacity(alloc.clone()?, count_words(line))?;
     let mut rest = line;
@@ -193,7 +181,19 @@ fn arguments_of<A: Allocator + Clone>(alloc: A, line: &[u8]) -> Result<Arguments
         values.push(value_of(alloc.clone()?, word)?)?;
         rest = behind;
     }
-    Ok(Arguments { values })
+    Ok(values)
+}
+
+/// The arguments that the words of a line are. Where one is too long for a value, or is none, the line is
+/// read again for that.
+fn arguments_of<A: Allocator + Clone>(alloc: A, line: &[u8]) -> Result<Arguments<A>, Unread>
+    ensures { ReadsAs (λ a. a) result (spec.values_by value_of (words line.now)) }
+{
+    match values_of(alloc.clone()?, line) {
+        Ok(values) => Ok(Arguments::of_values(values)),
+        Err(Unread::NoMemory) => Err(Unread::NoMemory),
+        Err(Unread::Faulty(_)) => Ok(Arguments::of_bytes(bytes_of(alloc, line)?)),
+    }
 }
 
 /// A session, a number, a procedure's name, and its arguments.

@@ -12,7 +12,7 @@ ghost use Rattle.calcdb.specs.Scripts.{schedule_of};
 ghost use Rattle.calcdb.specs.Runs.{Carried, CarriesAll, Images};
 ghost use Rattle.calcdb.specs.declared.faults.Fault.TheVariants as fault;
 
-use crate::commands::{Arguments, Command};
+use crate::commands::Command;
 use crate::faults::refusals::write_fault;
 use crate::faults::{Fault, Reason};
 use crate::journals::{Journal, NoJournal, Stop};
@@ -23,7 +23,7 @@ use image::Image;
 use procedure::streams::{Unread, read_past};
 use std::alloc::Allocator;
 use std::io::{Read, Write};
-use steps::Core;
+use steps::{Arguments, Core};
 
 /// What a run leaves: the core, and what the images that were taken were given to.
 #[derive(Drop)]

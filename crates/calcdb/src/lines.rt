@@ -6,12 +6,7 @@ ghost use Rattle.calcdb.specs.Lines as spec;
 ghost use Rattle.calcdb.specs.Lines.{left_pieces, pieces, words};
 
 use crate::faults::misreads::{Misread, Quote};
-
-fn is_line_feed(byte: u8) -> bool
-    ensures { result ≡ spec.is_line_feed byte }
-{
-    byte == b'\n'
-}
+use memchr::memchr;
 
 /// Whether a byte parts words.
 fn is_blank(byte: u8) -> bool
@@ -23,7 +18,7 @@ fn is_blank(byte: u8) -> bool
 fn line_end(text: &[u8]) -> Option<usize>
     ensures { result ≡ position spec.is_line_feed text.now }
 {
-    text.iter().position(|byte| is_line_feed(*byte))
+    memchr(b'\n', text)
 }
 
 fn word_end(line: &[u8]) -> Option<usize>
@@ -64,16 +59,22 @@ pub(crate) fn without_return(line: &[u8]) -> &[u8]
     }
 }
 
+fn may_stand(byte: u8) -> bool
+    ensures { result ≡ spec.is_allowed byte }
+{
+    byte == b'\t' || (b' '..=b'~').contains(&byte)
+}
+
 /// Whether all bytes are such that a line may have.
 pub(crate) fn is_allowed(line: &[u8]) -> bool
     ensures { result ≡ spec.all_pass spec.is_allowed line.now }
 {
+    // It goes on behind the first that isn't, so that many bytes are looked at together.
+    let mut all = true;
     for byte in line {
-        if !(*byte == b'\t' || (b' '..=b'~').contains(byte)) {
-            return false;
-        }
+        all &= may_stand(*byte);
     }
-    true
+    all
 }
 
 /// The first word of a line, if it has one, and what stands after it.

@@ -8,7 +8,7 @@ ghost use Rattle.steps.specs.declared.schedules.Event.TheVariants as event;
 ghost use Rattle.calcdb.specs.Journals.{IsKept, SentUnlessUnkept, StopsIn, Taken, images_given, taken_of, with_more};
 ghost use Rattle.calcdb.specs.Runs.{Calls, Carried, Carries, CarriesAll, Ends, GoesOn, Images, Says, Scans, Sent, count_of, images_shown, reply_text, shown_text};
 
-use crate::commands::{Arguments, Command, NewCall};
+use crate::commands::{Command, NewCall};
 use crate::faults::Fault;
 use crate::journals::{Journal, Stop};
 use crate::output::{
@@ -23,7 +23,7 @@ use procedure::streams::{WriteFault, write_out};
 use std::alloc::Allocator;
 use std::io::Write;
 use steps::schedules::Reply;
-use steps::{Captured, Core, Stepped};
+use steps::{Arguments, Captured, Core, Stepped};
 
 /// How many instructions a procedure of the core has; 0 where there is none.
 fn count_of<A: Allocator>(core: &Core<A>, procedure: u16) -> usize
@@ -77,7 +77,7 @@ fn run_call<A: Allocator + Clone>(core: &mut Core<A>, call: NewCall<Arguments<A>
         args,
     } = call;
     let count = count_of(core, procedure);
-    match core.begin(session, number, procedure, args.into_values()) {
+    match core.begin(session, number, procedure, args) {
         Ok(()) => go_on(core, session, count),
         Err(refused) => Reply::Begin(Err(refused)),
     }
@@ -133,7 +133,7 @@ pub(crate) fn carry_out<A: Allocator + Clone>(
                 procedure,
                 args,
             } = call;
-            let begun = core.begin(session, number, procedure, args.into_values());
+            let begun = core.begin(session, number, procedure, args);
             Shown::Reply(Reply::Begin(begun))
         }
         Command::Step(session) => Shown::Reply(Reply::Step(core.step(session))),

@@ -9,7 +9,7 @@ ghost use Rattle.calcdb.specs.Reads.{ReadsAs};
 ghost use Rattle.calcdb.specs.Scripts as spec;
 ghost use Rattle.calcdb.specs.declared.scripts.ScriptFault.TheVariants as fault;
 
-use crate::commands::{Arguments, Command, Names, ReadCommand};
+use crate::commands::{Command, Names, ReadCommand};
 use crate::faults::misreads::{FaultyLine, Misread};
 use crate::faults::unread::Unread;
 use crate::line_by_line::{LineReader, read_lines};
@@ -19,6 +19,7 @@ use crate::thread_commands::ThreadCommand;
 use procedure::{Catalog, Sequence, Value};
 use std::alloc::{AllocError, Allocator};
 use std::marker::Model;
+use steps::Arguments;
 
 /// Bytes of a script, and of any text that the program reads.
 pub(crate) const SCRIPT_BYTES: usize = 4_194_304;

@@ -6,12 +6,14 @@ ghost use Rattle.calcdb.specs.Reads.{ReadsAs, ReadsExactly};
 ghost use Rattle.calcdb.specs.ThreadCommands as spec;
 ghost use Rattle.calcdb.specs.Values.{held_value_of};
 
-use crate::commands::{Names, NewCall, ReadCommand, kind_of, number_at, procedure_at, session_at};
+use crate::commands::{
+    Names, NewCall, ReadCommand, kind_of, number_at, procedure_at, session_at, values_of,
+};
 use crate::faults::misreads::{Misread, Quote};
 use crate::faults::unread::Unread;
 use crate::instructions::is_word;
-use crate::lines::{count_words, end_of, first_word, word_at};
-use crate::values::{held_of, key_of};
+use crate::lines::{end_of, word_at};
+use crate::values::key_of;
 use image::Kind;
 use procedure::limits::SESSIONS;
 use procedure::{Key, Sequence, Value};
@@ -38,19 +40,6 @@ enum ThreadCommandName {
     Call,
     Checkpoint,
     View,
-}
-
-/// The values that the words of a line are.
-fn values_of<A: Allocator + Clone>(alloc: A, line: &[u8]) -> Result<Sequence<Value<A>, A>, Unread>
-    ensures { ReadsAs (λ v. v) result (commands.values_by held_value_of (words line.now)) }
-{
-    let mut values = Vec::with_capacity(alloc.clone()?, count_words(line))?;
-    let mut rest = line;
-    while let Some((word, behind)) = first_word(rest) {
-        values.push(held_of(alloc.clone()?, word)?)?;
-        rest = behind;
-    }
-    Ok(Sequence::new(values))
 }
 
 /// A session, a number, a procedure's name, and its arguments.

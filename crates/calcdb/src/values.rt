@@ -68,18 +68,18 @@ pub(crate) fn decimal_of(most: u64, word: &[u8]) -> Result<u64, Misread>
     }
 }
 
-/// The value of a number's digits.
+/// The bytes of a number's digits.
 #[tactic(auto, unfolding(crate::specs::Values::number_value_of))]
-fn number_of<A: Allocator>(alloc: A, digits: &[u8]) -> Result<Vec<u8, A>, Unread>
-    ensures { ReadsAs (λ v. v.items) result (spec.number_value_of digits.now) }
+fn number_of(digits: &[u8]) -> Result<[u8; 8], Misread>
+    ensures { ReadsExactly (λ b. b) result (spec.number_value_of digits.now) }
 {
     if digits.len() > 20 {
-        return Err(Unread::Faulty(Misread::NoNumber(Quote::of(digits), u64::MAX)));
+        return Err(Misread::NoNumber(Quote::of(digits), u64::MAX));
     }
     let number = decimal_of(u64::MAX, digits)?;
     let mut bytes = [0u8; 8];
     BigEndian::write_u64(&mut bytes, number);
-    Ok(Vec::from_array(alloc, bytes)?)
+    Ok(bytes)
 }
 
 /// The value of hexadecimal digits.
@@ -99,7 +99,7 @@ pub(crate) fn value_of<A: Allocator>(alloc: A, word: &[u8]) -> Result<Vec<u8, A>
     ensures { ReadsAs (λ v. v.items) result (spec.value_of word.now) }
 {
     match word {
-        [b'#', digits @ ..] => number_of(alloc, digits),
+        [b'#', digits @ ..] => Ok(Vec::from_array(alloc, number_of(digits)?)?),
         [b'\'', text @ ..] => Ok(Vec::from_slice(alloc, text)?),
         [b'x', digits @ ..] => hex_of(alloc, digits),
         _ => Err(Unread::Faulty(Misread::NoValue(Quote::of(word)))),
@@ -107,21 +107,32 @@ pub(crate) fn value_of<A: Allocator>(alloc: A, word: &[u8]) -> Result<Vec<u8, A>
 }
 
 /// The key that a word is.
+#[tactic(auto, unfolding(crate::specs::Values::value_of))]
 pub(crate) fn key_of<A: Allocator>(alloc: A, word: &[u8]) -> Result<Key, Unread>
     ensures { ReadsAs (λ k. k) result (spec.key_of word.now) }
 {
-    let bytes = value_of(alloc, word)?;
-    match Key::new(bytes.as_slice()) {
+    let key = match word {
+        [b'#', digits @ ..] => Key::new(&number_of(digits)?),
+        [b'\'', text @ ..] => Key::new(text),
+        _ => Key::new(value_of(alloc, word)?.as_slice()),
+    };
+    match key {
         Some(key) => Ok(key),
         None => Err(Unread::Faulty(Misread::NoKey(Quote::of(word)))),
     }
 }
 
-/// What a key may hold, as a word.
+/// What a key may hold, as a word. A short one takes no memory.
+#[tactic(auto, unfolding(crate::specs::Values::value_of))]
 pub(crate) fn held_of<A: Allocator>(alloc: A, word: &[u8]) -> Result<Value<A>, Unread>
     ensures { ReadsAs (λ v. v) result (spec.held_value_of word.now) }
 {
-    match Value::new(value_of(alloc, word)?) {
+    let value = match word {
+        [b'#', digits @ ..] => Value::from_slice(alloc, &number_of(digits)?)?,
+        [b'\'', text @ ..] => Value::from_slice(alloc, text)?,
+        _ => Value::new(value_of(alloc, word)?),
+    };
+    match value {
         Some(value) => Ok(value),
         None => Err(Unread::Faulty(Misread::LongValue(Quote::of(word), VALUE_BYTES))),
     }

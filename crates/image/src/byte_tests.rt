@@ -1,10 +1,10 @@
 //! Tests of the bytes of images: worked examples made by another program, and texts that are cut or
 //! altered.
 use super::*;
-use crate::tests::{are, entries, full, is_full, partial};
-use procedure::{Key, Value};
+use crate::tests::{FIRST, Given, Parts, SECOND, THIRD, are, full, image_of, is_full, says};
+use procedure::{Key, NoMemory, Value};
 use sha2::{Digest, Sha256};
-use std::alloc::Global;
+use std::alloc::{AllocError, Global};
 use std::process::Abort;
 use std::test::Fail;
 
@@ -60,8 +60,16 @@ fn refusal(alloc: Global, bytes: &[u8]) -> Option<ReadError> {
     read_image(alloc, bytes).err()
 }
 
+/// How the bytes are refused, and nothing where they are read.
+fn refusal_of(alloc: Global, bytes: Result<Vec<u8>, AllocError>) -> Option<ReadError> {
+    match bytes {
+        Ok(bytes) => refusal(alloc, bytes.as_slice()),
+        Err(_) => Some(ReadError::NoMemory),
+    }
+}
+
 /// The bytes with another one at a place.
-fn altered(alloc: Global, bytes: &[u8], place: usize, to: u8) -> Result<Vec<u8>, Fail> {
+fn altered(alloc: Global, bytes: &[u8], place: usize, to: u8) -> Result<Vec<u8>, AllocError> {
     let mut copy = Vec::from_slice(alloc, bytes)?;
     if let Some(byte) = copy.get_mut(place) {
         *byte = to;
@@ -70,53 +78,91 @@ fn altered(alloc: Global, bytes: &[u8], place: usize, to: u8) -> Result<Vec<u8>,
 }
 
 /// How the bytes are refused with all bits of one of them turned.
-fn turned(alloc: Global, bytes: &[u8], place: usize) -> Result<Option<ReadError>, Fail> {
-    let byte = *bytes.get(place).ok_or("no such place")?;
-    Ok(refusal(alloc, altered(alloc, bytes, place, !byte)?.as_slice()))
+fn turned(alloc: Global, bytes: &[u8], place: usize) -> Option<ReadError> {
+    let byte = *bytes.get(place)?;
+    refusal_of(alloc, altered(alloc, bytes, place, !byte))
+}
+
+/// Places from one up to another, and how bytes are refused in which the one at such a place is turned.
+type Turned = (usize, usize, ReadError);
+
+/// The first of the places at which a turned byte is refused otherwise.
+fn refused_otherwise(alloc: Global, bytes: &[u8], rows: &[Turned]) -> Option<usize> {
+    for (from, to, wanted) in rows {
+        for place in *from..*to {
+            if turned(alloc, bytes, place) != Some(*wanted) {
+                return Some(place);
+            }
+        }
+    }
+    None
 }
 
 /// The bytes, and after them their digest.
-fn signed(alloc: Global, bytes: &[u8]) -> Result<Vec<u8>, Fail> {
+fn signed(alloc: Global, bytes: &[u8]) -> Result<Vec<u8>, AllocError> {
     let mut copy = Vec::from_slice(alloc, bytes)?;
     copy.extend_from_slice(&Sha256::digest(bytes))?;
     Ok(copy)
 }
 
-/// The bytes from a place up to another.
-fn part(bytes: &[u8], from: usize, to: usize) -> Result<&[u8], Fail> {
-    Ok(bytes.get(from..to).ok_or("no such part")?)
+/// The bytes of an image in version 1.
+fn sealed_v1(alloc: Global, image: Image<Global>) -> Result<Vec<u8>, SealError> {
+    seal_v1(alloc, &image)
+}
+
+/// And in version 2.
+pub(crate) fn sealed(alloc: Global, image: Image<Global>) -> Result<Vec<u8>, NoMemory> {
+    seal(alloc, &image)
+}
+
+/// Whether the bytes are read as the image of `row`.
+fn is_row(alloc: Global, bytes: &[u8]) -> bool {
+    match read_image(alloc, bytes) {
+        Ok(image) => is_full(&image, 1, 2, &[(b'a', Some(2))]),
+        Err(_) => false,
+    }
 }
 
 #[test]
 fn first_bytes(rt: HostRuntime) -> Result<(), Fail> {
     let alloc = rt.alloc();
-    let bytes = seal_v1(alloc, &row(alloc)?)?;
-    assert_eq!(rt; bytes.as_slice(), FIRST_ROW.as_slice());
-    assert!(rt; is_full(&read_image(alloc, &FIRST_ROW)?, 1, 2, &[(b'a', Some(2))]));
-    assert_eq!(rt; seal_v1(alloc, &full(alloc, 0, 0, &[])?)?.len(), 69);
+    assert!(rt; sealed_v1(alloc, row(alloc)?)?.as_slice() == FIRST_ROW.as_slice());
+    assert!(rt; is_row(alloc, &FIRST_ROW));
+    assert_eq!(rt; sealed_v1(alloc, full(alloc, 0, 0, &[])?)?.len(), 69);
     Ok(())
 }
 
 #[test]
 fn second_bytes(rt: HostRuntime) -> Result<(), Fail> {
     let alloc = rt.alloc();
-    let bytes = seal(alloc, &row(alloc)?)?;
-    assert_eq!(rt; bytes.as_slice(), SECOND_ROW.as_slice());
-    assert!(rt; is_full(&read_image(alloc, &SECOND_ROW)?, 1, 2, &[(b'a', Some(2))]));
-    assert_eq!(rt; seal(alloc, &full(alloc, 0, 0, &[])?)?.len(), 69);
+    assert!(rt; sealed(alloc, row(alloc)?)?.as_slice() == SECOND_ROW.as_slice());
+    assert!(rt; is_row(alloc, &SECOND_ROW));
+    assert_eq!(rt; sealed(alloc, full(alloc, 0, 0, &[])?)?.len(), 69);
     Ok(())
+}
+
+/// How many entries are read, and none where the bytes are refused.
+fn count_read(alloc: Global, bytes: &[u8]) -> Option<usize> {
+    match read_image(alloc, bytes) {
+        Ok(image) => Some(image.entries().len()),
+        Err(_) => None,
+    }
+}
+
+/// The length of the bytes of an image, their digest, and how many entries are read of them.
+fn measured(alloc: Global, image: Image<Global>) -> Result<(usize, [u8; 32], Option<usize>), Fail> {
+    let bytes = sealed(alloc, image)?;
+    let text = bytes.as_slice();
+    Ok((text.len(), Sha256::digest(text), count_read(alloc, text)))
 }
 
 #[test]
 fn blocks(rt: HostRuntime) -> Result<(), Fail> {
     let alloc = rt.alloc();
-    for (count, length, sum) in [(64, 933, SUM_OF_64), (65, 978, SUM_OF_65)] {
-        let bytes = seal(alloc, &counted(alloc, count)?)?;
-        assert_eq!(rt; bytes.len(), length);
-        assert_eq!(rt; Sha256::digest(bytes.as_slice()), sum);
-        let image = read_image(alloc, bytes.as_slice())?;
-        assert_eq!(rt; image.entries().len(), usize::from(count));
-    }
+    let found = measured(alloc, counted(alloc, 64)?)?;
+    assert_eq!(rt; found, (933, SUM_OF_64, Some(64)));
+    let found = measured(alloc, counted(alloc, 65)?)?;
+    assert_eq!(rt; found, (978, SUM_OF_65, Some(65)));
     Ok(())
 }
 
@@ -139,167 +185,212 @@ fn first_cut(rt: HostRuntime) -> Result<(), Fail> {
 }
 
 #[test]
-fn first_altered(rt: HostRuntime) -> Result<(), Fail> {
+fn first_altered(rt: HostRuntime) {
     let alloc = rt.alloc();
-    for place in 0..FIRST_ROW.len() {
-        let wanted = if place < 8 {
-            ReadError::NotAnImage
-        } else {
-            ReadError::BadDigest
-        };
-        assert_eq!(rt;
-            turned(alloc, &FIRST_ROW, place)?,
-            Some(wanted),
-            "byte {place}"
-        );
-    }
-    let second = altered(alloc, &FIRST_ROW, 7, b'2')?;
-    assert_eq!(rt;
-        refusal(alloc, second.as_slice()),
-        Some(ReadError::BadBlock(0))
-    );
-    Ok(())
+    let rows = [(0, 8, ReadError::NotAnImage), (8, 82, ReadError::BadDigest)];
+    assert_eq!(rt; refused_otherwise(alloc, &FIRST_ROW, &rows), None);
+    let second = refusal_of(alloc, altered(alloc, &FIRST_ROW, 7, b'2'));
+    assert_eq!(rt; second, Some(ReadError::BadBlock(0)));
 }
 
 /// A place, and the byte that stands there in place of the right one: a kind, the base, the count, the
 /// length of the key, the tag, the length of the value.
 const BAD_FORMS: [(usize, u8); 6] = [(8, 2), (24, 0), (36, 2), (37, 0), (39, 0), (40, 2)];
 
+/// How the text is refused with another byte at a place, and its digest after it.
+fn signed_refusal(alloc: Global, text: &[u8], place: usize, to: u8) -> Option<ReadError> {
+    match altered(alloc, text, place, to) {
+        Ok(text) => refusal_of(alloc, signed(alloc, text.as_slice())),
+        Err(_) => Some(ReadError::NoMemory),
+    }
+}
+
 #[test]
-fn first_bad_forms(rt: HostRuntime) -> Result<(), Fail> {
-    let alloc = rt.alloc();
-    for (place, to) in BAD_FORMS {
-        let text = altered(alloc, &FIRST_ROW[..50], place, to)?;
-        let bytes = signed(alloc, text.as_slice())?;
-        let found = refusal(alloc, bytes.as_slice());
+fn first_bad_forms(rt: HostRuntime) {
+    for (place, to) in &BAD_FORMS {
+        let found = signed_refusal(rt.alloc(), &FIRST_ROW[..50], *place, *to);
         assert_eq!(rt; found, Some(ReadError::BadForm), "byte {place}");
     }
-    Ok(())
 }
+
+/// Where the bytes with 65 entries are altered: their header, their first block and their second.
+const SECOND_TURNED: [Turned; 8] = [
+    (0, 8, ReadError::NotAnImage),
+    (8, 69, ReadError::BadBlock(0)),
+    (69, 70, ReadError::BadBlock(1)),
+    (900, 901, ReadError::BadBlock(1)),
+    (932, 933, ReadError::BadBlock(1)),
+    (933, 934, ReadError::BadBlock(2)),
+    (940, 941, ReadError::BadBlock(2)),
+    (977, 978, ReadError::BadBlock(2)),
+];
 
 #[test]
 fn second_altered(rt: HostRuntime) -> Result<(), Fail> {
     let alloc = rt.alloc();
-    let bytes = seal(alloc, &counted(alloc, 65)?)?;
-    for place in 0..8 {
-        let found = turned(alloc, bytes.as_slice(), place)?;
-        assert_eq!(rt; found, Some(ReadError::NotAnImage), "byte {place}");
-    }
-    let first = altered(alloc, bytes.as_slice(), 7, b'1')?;
-    assert_eq!(rt;
-        refusal(alloc, first.as_slice()),
-        Some(ReadError::BadDigest)
-    );
-    for place in 8..69 {
-        let found = turned(alloc, bytes.as_slice(), place)?;
-        assert_eq!(rt; found, Some(ReadError::BadBlock(0)), "byte {place}");
-    }
-    for (place, block) in [(69, 1), (900, 1), (932, 1), (933, 2), (940, 2), (977, 2)] {
-        let found = turned(alloc, bytes.as_slice(), place)?;
-        assert_eq!(rt; found, Some(ReadError::BadBlock(block)), "byte {place}");
-    }
+    let bytes = sealed(alloc, counted(alloc, 65)?)?;
+    let text = bytes.as_slice();
+    assert_eq!(rt; refused_otherwise(alloc, text, &SECOND_TURNED), None);
+    let first = refusal_of(alloc, altered(alloc, text, 7, b'1'));
+    assert_eq!(rt; first, Some(ReadError::BadDigest));
     Ok(())
+}
+
+/// How the first bytes of a text are refused.
+fn cut_refusal(alloc: Global, bytes: &[u8], length: usize) -> Option<ReadError> {
+    refusal(alloc, bytes.get(..length)?)
+}
+
+/// How a text is refused with a byte after it.
+fn longer_refusal(alloc: Global, bytes: &[u8]) -> Option<ReadError> {
+    let mut longer = Vec::from_slice(alloc, bytes).ok()?;
+    match longer.push(0) {
+        Ok(()) => refusal(alloc, longer.as_slice()),
+        Err(_) => Some(ReadError::NoMemory),
+    }
 }
 
 #[test]
 fn second_cut(rt: HostRuntime) -> Result<(), Fail> {
     let alloc = rt.alloc();
-    let mut bytes = seal(alloc, &counted(alloc, 65)?)?;
-    let shorter = refusal(alloc, part(bytes.as_slice(), 0, 977)?);
-    assert_eq!(rt; shorter, Some(ReadError::BadBlock(2)));
-    let one_block = refusal(alloc, part(bytes.as_slice(), 0, 933)?);
-    assert_eq!(rt; one_block, Some(ReadError::BadBlock(2)));
-    bytes.push(0)?;
-    assert_eq!(rt; refusal(alloc, bytes.as_slice()), Some(ReadError::BadForm));
+    let bytes = sealed(alloc, counted(alloc, 65)?)?;
+    let text = bytes.as_slice();
+    let last = Some(ReadError::BadBlock(2));
+    assert_eq!(rt; cut_refusal(alloc, text, 977), last);
+    assert_eq!(rt; cut_refusal(alloc, text, 933), last);
+    assert_eq!(rt; longer_refusal(alloc, text), Some(ReadError::BadForm));
     Ok(())
 }
 
-/// Two entries, of which the second has the lower key, in version 2.
-fn exchanged(alloc: Global) -> Result<Vec<u8>, Fail> {
-    let sealed = seal(alloc, &counted(alloc, 2)?)?;
-    let right = sealed.as_slice();
-    let mut text = Vec::from_slice(alloc, part(right, 37, 69)?)?;
-    text.extend_from_slice(part(right, 82, 95)?)?;
-    text.extend_from_slice(part(right, 69, 82)?)?;
-    let mut bytes = Vec::from_slice(alloc, part(right, 0, 37)?)?;
-    bytes.extend_from_slice(signed(alloc, text.as_slice())?.as_slice())?;
-    Ok(bytes)
+/// Exchanges two entries of 13 bytes, which are the only block of a text of version 2, and signs the
+/// block again. Bytes of another length stay.
+fn exchange(bytes: &mut [u8]) {
+    if bytes.len() == 127 {
+        bytes[69..95].rotate_left(13);
+        let digest = Sha256::digest(&bytes[37..95]);
+        bytes[95..].copy_from_slice(&digest);
+    }
 }
 
 #[test]
 fn unordered(rt: HostRuntime) -> Result<(), Fail> {
     let alloc = rt.alloc();
-    let bytes = exchanged(alloc)?;
+    let mut bytes = sealed(alloc, counted(alloc, 2)?)?;
+    exchange(bytes.as_mut_slice());
     assert_eq!(rt; bytes.len(), 127);
     assert_eq!(rt; refusal(alloc, bytes.as_slice()), Some(ReadError::BadForm));
     Ok(())
 }
 
-/// A header that states four thousand million entries, with its digest.
-fn endless(alloc: Global, magic: &[u8]) -> Result<Vec<u8>, Fail> {
-    let mut text = Vec::from_slice(alloc, magic)?;
-    text.extend_from_slice(&FIRST_ROW[8..33])?;
-    text.extend_from_slice(&[255; 4])?;
-    signed(alloc, text.as_slice())
-}
+/// A header that states four thousand million entries.
+const ENDLESS: [u8; 37] = [
+    0x43, 0x41, 0x4c, 0x43, 0x49, 0x4d, 0x47, 0x31, 0x00, 0x00, 0x00, 0x00, 0x00, 0x00, 0x00, 0x00,
+    0x01, 0x00, 0x00, 0x00, 0x00, 0x00, 0x00, 0x00, 0x01, 0x00, 0x00, 0x00, 0x00, 0x00, 0x00, 0x00,
+    0x02, 0xff, 0xff, 0xff, 0xff,
+];
 
 #[test]
-fn stated_count(rt: HostRuntime) -> Result<(), Fail> {
+fn stated_count(rt: HostRuntime) {
     let alloc = rt.alloc();
-    let first = refusal(alloc, endless(alloc, b"CALCIMG1")?.as_slice());
+    let first = signed_refusal(alloc, &ENDLESS, 7, b'1');
     assert_eq!(rt; first, Some(ReadError::BadForm));
-    let second = refusal(alloc, endless(alloc, b"CALCIMG2")?.as_slice());
+    let second = signed_refusal(alloc, &ENDLESS, 7, b'2');
     assert_eq!(rt; second, Some(ReadError::BadBlock(1)));
-    Ok(())
+}
+
+fn sevens(alloc: Global, length: usize) -> Result<Vec<u8>, Fail> {
+    let mut bytes = Vec::new(alloc);
+    bytes.resize(length, 7)?;
+    Ok(bytes)
+}
+
+/// One entry, which has these bytes as its value.
+fn one_entry(alloc: Global, bytes: Vec<u8>) -> Result<Vec<Entry<Global>>, Fail> {
+    let value = Value::new(bytes).ok_or("too long")?;
+    let key = Key::new(b"k").ok_or("no key")?;
+    let cell = Some(value);
+    Ok(vec![in alloc; Entry { key, cell }]?)
 }
 
 /// A full image of one value of the given length.
 pub(crate) fn valued(alloc: Global, length: usize) -> Result<Image<Global>, Fail> {
-    let mut bytes = Vec::new(alloc);
-    bytes.resize(length, 7)?;
-    let cell = Some(Value::new(bytes).ok_or("too long")?);
-    let key = Key::new(b"k").ok_or("no key")?;
-    let entries = vec![in alloc; Entry { key, cell }]?;
+    let entries = one_entry(alloc, sevens(alloc, length)?)?;
     Ok(Image::new(Kind::Full, 0, 0, 0, entries).ok_or("not lawful")?)
+}
+
+/// Why an image has no bytes in version 1, and nothing where it has.
+fn refusal_v1(alloc: Global, image: Image<Global>) -> Option<SealError> {
+    seal_v1(alloc, &image).err()
 }
 
 #[test]
 fn large_values(rt: HostRuntime) -> Result<(), Fail> {
     let alloc = rt.alloc();
-    for (length, refused) in [(256, None), (257, Some(SealError::TooLarge))] {
-        let image = valued(alloc, length)?;
-        assert_eq!(rt; seal_v1(alloc, &image).err(), refused);
-    }
-    let bytes = seal(alloc, &valued(alloc, 65_535)?)?;
-    assert_eq!(rt; bytes.len(), 69 + 5 + 65_535 + 32);
-    assert!(rt; read_image(alloc, bytes.as_slice()).is_ok());
+    assert_eq!(rt; refusal_v1(alloc, valued(alloc, 256)?), None);
+    let refused = refusal_v1(alloc, valued(alloc, 257)?);
+    assert_eq!(rt; refused, Some(SealError::TooLarge));
+    let (length, _, count) = measured(alloc, valued(alloc, 65_535)?)?;
+    assert_eq!(rt; (length, count), (69 + 5 + 65_535 + 32, Some(1)));
     Ok(())
+}
+
+/// An image that is read from its bytes in version 1.
+fn through_v1(alloc: Global, parts: &Parts) -> Result<Image<Global>, Fail> {
+    let bytes = sealed_v1(alloc, image_of(alloc, parts)?)?;
+    Ok(read_image(alloc, bytes.as_slice())?)
+}
+
+/// An image that is read from its bytes in version 2.
+fn through_v2(alloc: Global, parts: &Parts) -> Result<Image<Global>, Fail> {
+    let bytes = sealed(alloc, image_of(alloc, parts)?)?;
+    Ok(read_image(alloc, bytes.as_slice())?)
+}
+
+/// Partial images that are read, the first from its bytes in version 2, the second in version 1.
+fn mixed_partials(alloc: Global) -> Result<Vec<Image<Global>>, Fail> {
+    let mut images = vec![in alloc; through_v2(alloc, &SECOND)?]?;
+    images.push(through_v1(alloc, &THIRD)?)?;
+    Ok(images)
+}
+
+/// Whether the partial images and a full one, which is read from its bytes in version 1, are the right
+/// one when merged, and how many bytes that has in version 1.
+fn mixed_length(alloc: Global, partials: &[Image<Global>]) -> Result<(bool, usize), Fail> {
+    let first = through_v1(alloc, &FIRST)?;
+    let merged = merged_of(alloc, first, partials)?;
+    let right = is_full(&merged, 3, 9, &[(b'b', Some(9)), (b'c', Some(7))]);
+    Ok((right, sealed_v1(alloc, merged)?.len()))
+}
+
+/// An image and the partial ones that stand on it as one.
+fn merged_of(
+    alloc: Global,
+    first: Image<Global>,
+    partials: &[Image<Global>],
+) -> Result<Image<Global>, MergeError> {
+    merge(alloc, &first, partials)
+}
+
+/// Whether the first of the images has these entries.
+fn first_has(images: &[Image<Global>], given: &[Given]) -> bool {
+    match images.first() {
+        Some(image) => are(image.entries(), given),
+        None => false,
+    }
 }
 
 #[test]
 fn mixed_versions(rt: HostRuntime) -> Result<(), Fail> {
     let alloc = rt.alloc();
-    let first = seal_v1(
-        alloc,
-        &full(alloc, 1, 1, &[(b'a', Some(1)), (b'b', Some(2))])?,
-    )?;
-    let second = seal(
-        alloc,
-        &partial(alloc, 2, 1, 5, &[(b'a', None), (b'c', Some(7))])?,
-    )?;
-    let third = seal_v1(alloc, &partial(alloc, 3, 2, 9, &[(b'b', Some(9))])?)?;
-    let base = read_image(alloc, first.as_slice())?;
-    let one = read_image(alloc, second.as_slice())?;
-    assert!(rt; are(one.entries(), &[(b'a', None), (b'c', Some(7))]));
-    let two = read_image(alloc, third.as_slice())?;
-    let merged = merge(alloc, &base, vec![in alloc; one, two]?.as_slice())?;
-    assert!(rt; is_full(&merged, 3, 9, &[(b'b', Some(9)), (b'c', Some(7))]));
-    assert_eq!(rt; seal_v1(alloc, &merged)?.len(), 95);
+    let partials = mixed_partials(alloc)?;
+    let images = partials.as_slice();
+    assert!(rt; first_has(images, &[(b'a', None), (b'c', Some(7))]));
+    assert_eq!(rt; mixed_length(alloc, images)?, (true, 95));
     Ok(())
 }
 
 #[test]
-fn read_texts(rt: HostRuntime) -> Result<(), Fail> {
+fn read_texts(rt: HostRuntime) {
     let alloc = rt.alloc();
     let rows = [
         (ReadError::NotAnImage, "not an image"),
@@ -308,9 +399,8 @@ fn read_texts(rt: HostRuntime) -> Result<(), Fail> {
         (ReadError::BadForm, "bad form"),
         (ReadError::NoMemory, "no memory"),
     ];
-    for (refusal, text) in rows {
-        assert_eq!(rt; refusal.to_string(alloc)?.as_str(), text);
+    for (refusal, text) in &rows {
+        assert!(rt; says(refusal.to_string(alloc), text), "{text}");
     }
-    assert_eq!(rt; SealError::TooLarge.to_string(alloc)?.as_str(), "too large");
-    Ok(())
+    assert!(rt; says(SealError::TooLarge.to_string(alloc), "too large"));
 }

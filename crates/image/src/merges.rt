@@ -9,7 +9,7 @@ ghost use Rattle.image.specs.Joins.{Say, later_of, lent, present, said_by};
 ghost use Rattle.image.specs.Merges.{Answers, IsChain, chain_refusal, last_of, links_refusal, merged_image, refusal_of};
 ghost use Rattle.image.specs.declared.merges.MergeError.{MergeError};
 
-use crate::entries::Entry;
+use crate::entries::{Entry, compared};
 use crate::images::{Image, Kind, full_of};
 use crate::limits::{ENTRIES, IMAGES};
 use procedure::NoMemory;
@@ -117,7 +117,7 @@ fn check_chain<A: Allocator>(full: &Image<A>, partials: &[Image<A>]) -> Result<(
 fn order<A: Allocator>(x: &Entry<A>, y: &Entry<A>) -> Ordering
     ensures { result ≡ slice_cmp nat_cmp x.now.0 y.now.0 }
 {
-    x.key.cmp(&y.key)
+    compared(x, &y.key)
 }
 
 fn borrowed<'a, A: Allocator>(

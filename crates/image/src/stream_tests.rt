@@ -1,8 +1,8 @@
 //! Tests of images that go to a writer and come from a reader: devices that fail at a call, and that
 //! take or give few bytes a call.
 use super::*;
-use crate::byte_tests::{FIRST_ROW, SECOND_ROW, SUM_OF_65, counted, row, valued};
-use crate::tests::is_full;
+use crate::byte_tests::{FIRST_ROW, SECOND_ROW, SUM_OF_65, counted, row, sealed, valued};
+use crate::tests::{is_full, says};
 use sha2::{Digest, Sha256};
 use std::alloc::Global;
 use std::io::{Error, ErrorKind, Read, Result as IoResult, Write};
@@ -70,21 +70,31 @@ fn sent(
     (sink.kept, refused)
 }
 
+/// How many bytes a writer that takes `calls` calls keeps of an image, and what is returned.
+fn count_sent(
+    alloc: Global,
+    image: Image<Global>,
+    most: usize,
+    calls: usize,
+) -> (usize, Option<WriteError>) {
+    let (kept, refused) = sent(alloc, &image, most, calls);
+    (kept.len(), refused)
+}
+
 /// How many bytes a writer takes that fails at a call, and which of the calls is the first with which
 /// nothing fails: header and digest are a write, and so is each block with its digest.
 #[test]
 fn written_in_three_calls(rt: HostRuntime) -> Result<(), Fail> {
     let alloc = rt.alloc();
-    let image = counted(alloc, 65)?;
     let rows = [
         (0, 0, Some(WriteError::WriteFault)),
         (1, 69, Some(WriteError::WriteFault)),
         (2, 933, Some(WriteError::WriteFault)),
         (3, 978, None),
     ];
-    for (calls, length, wanted) in rows {
-        let (kept, refused) = sent(alloc, &image, usize::MAX, calls);
-        assert_eq!(rt; (kept.len(), refused), (length, wanted), "{calls} calls");
+    for (calls, length, wanted) in &rows {
+        let found = count_sent(alloc, counted(alloc, 65)?, usize::MAX, *calls);
+        assert_eq!(rt; found, (*length, *wanted), "{calls} calls");
     }
     Ok(())
 }
@@ -98,41 +108,61 @@ fn begins(alloc: Global, image: &Image<Global>, whole: &[u8], most: usize, calls
     })
 }
 
+/// Whether a writer that takes `calls` calls keeps all of the bytes, and no error is returned.
+fn is_sent(alloc: Global, image: &Image<Global>, whole: &[u8], most: usize, calls: usize) -> bool {
+    let (kept, refused) = sent(alloc, image, most, calls);
+    refused.is_none() && kept.as_slice() == whole
+}
+
 #[test]
 fn written_a_byte_a_call(rt: HostRuntime) -> Result<(), Fail> {
     let alloc = rt.alloc();
     let image = row(alloc)?;
     assert!(rt; begins(alloc, &image, &SECOND_ROW, 1, 114));
-    let (kept, refused) = sent(alloc, &image, 1, 114);
-    assert_eq!(rt; refused, None);
-    assert_eq!(rt; kept.as_slice(), SECOND_ROW.as_slice());
+    assert!(rt; is_sent(alloc, &image, &SECOND_ROW, 1, 114));
     Ok(())
+}
+
+/// What is returned as an image goes to a writer, and the digest of what that keeps.
+fn digest_sent(
+    alloc: Global,
+    image: &Image<Global>,
+    most: usize,
+    calls: usize,
+) -> (Option<WriteError>, [u8; 32]) {
+    let (kept, refused) = sent(alloc, image, most, calls);
+    (refused, Sha256::digest(kept.as_slice()))
+}
+
+/// Whether a writer with fewer calls keeps a beginning of the bytes with 65 entries, and what is returned
+/// with these calls, and the digest of what the writer then keeps.
+fn in_pieces(
+    alloc: Global,
+    most: usize,
+    calls: usize,
+) -> Result<(bool, Option<WriteError>, [u8; 32]), Fail> {
+    let image = counted(alloc, 65)?;
+    let whole = seal(alloc, &image)?;
+    let begun = begins(alloc, &image, whole.as_slice(), most, calls);
+    let (refused, digest) = digest_sent(alloc, &image, most, calls);
+    Ok((begun, refused, digest))
 }
 
 /// Three writes, of 69, 864 and 45 bytes.
 #[test]
 fn written_in_pieces(rt: HostRuntime) -> Result<(), Fail> {
     let alloc = rt.alloc();
-    let image = counted(alloc, 65)?;
-    let whole = seal(alloc, &image)?;
-    for (most, calls) in [(978, 3), (100, 11)] {
-        assert!(rt;
-            begins(alloc, &image, whole.as_slice(), most, calls),
-            "{most} bytes a call"
-        );
-        let (kept, refused) = sent(alloc, &image, most, calls);
-        assert_eq!(rt; refused, None);
-        assert_eq!(rt; Sha256::digest(kept.as_slice()), SUM_OF_65);
-    }
+    let wanted = (true, None, SUM_OF_65);
+    assert_eq!(rt; in_pieces(alloc, 978, 3)?, wanted, "978 bytes a call");
+    assert_eq!(rt; in_pieces(alloc, 100, 11)?, wanted, "100 bytes a call");
     Ok(())
 }
 
 #[test]
 fn write_of_no_byte(rt: HostRuntime) -> Result<(), Fail> {
     let alloc = rt.alloc();
-    let (kept, refused) = sent(alloc, &row(alloc)?, 0, 1);
-    assert_eq!(rt; refused, Some(WriteError::WriteFault));
-    assert!(rt; kept.is_empty());
+    let found = count_sent(alloc, row(alloc)?, 0, 1);
+    assert_eq!(rt; found, (0, Some(WriteError::WriteFault)));
     Ok(())
 }
 
@@ -161,23 +191,41 @@ fn count_received(
     Ok(received(alloc, bytes, most, calls)?.entries().len())
 }
 
-/// A text, how many bytes a call gives, with how many calls it is read, and how many entries it has.
+/// With how many calls, fewer than `calls`, something else than a read fault is told; and how many entries
+/// are read with `calls`.
+fn read_with(
+    alloc: Global,
+    text: &[u8],
+    most: usize,
+    calls: usize,
+) -> (Option<usize>, Result<usize, ReadFromError>) {
+    let mut other = None;
+    for fewer in 0..calls {
+        if count_received(alloc, text, most, fewer) != Err(ReadFromError::ReadFault) {
+            other = Some(fewer);
+        }
+    }
+    (other, count_received(alloc, text, most, calls))
+}
+
+/// The same of the bytes with 65 entries.
+fn read_counted(
+    alloc: Global,
+    most: usize,
+    calls: usize,
+) -> Result<(Option<usize>, Result<usize, ReadFromError>), Fail> {
+    let whole = sealed(alloc, counted(alloc, 65)?)?;
+    Ok(read_with(alloc, whole.as_slice(), most, calls))
+}
+
+/// How many bytes a call gives, and with how many calls a text is read.
 #[test]
 fn read_in_pieces(rt: HostRuntime) -> Result<(), Fail> {
     let alloc = rt.alloc();
-    let whole = seal(alloc, &counted(alloc, 65)?)?;
-    let rows: [(&[u8], usize, usize, usize); 3] = [
-        (&SECOND_ROW, 1, 115, 1),
-        (&whole, 100, 11, 65),
-        (&whole, 978, 2, 65),
-    ];
-    for (text, most, calls, count) in rows {
-        for fewer in 0..calls {
-            let refused = count_received(alloc, text, most, fewer);
-            assert_eq!(rt; refused, Err(ReadFromError::ReadFault), "{fewer} calls");
-        }
-        assert_eq!(rt; count_received(alloc, text, most, calls), Ok(count));
-    }
+    let found = read_with(alloc, &SECOND_ROW, 1, 115);
+    assert_eq!(rt; found, (None, Ok(1)));
+    assert_eq!(rt; read_counted(alloc, 100, 11)?, (None, Ok(65)));
+    assert_eq!(rt; read_counted(alloc, 978, 2)?, (None, Ok(65)));
     Ok(())
 }
 
@@ -194,15 +242,19 @@ fn read_long(rt: HostRuntime) -> Result<(), Fail> {
     Ok(())
 }
 
-#[test]
-fn read_both_versions(rt: HostRuntime) -> Result<(), Fail> {
-    let alloc = rt.alloc();
-    let texts: [&[u8]; 2] = [&FIRST_ROW, &SECOND_ROW];
-    for text in texts {
-        let image = received(alloc, text, 7, 100).ok().ok_or("not read")?;
-        assert!(rt; is_full(&image, 1, 2, &[(b'a', Some(2))]));
+/// Whether the image of `row` is read of the bytes.
+fn is_row_received(alloc: Global, bytes: &[u8]) -> bool {
+    match received(alloc, bytes, 7, 100) {
+        Ok(image) => is_full(&image, 1, 2, &[(b'a', Some(2))]),
+        Err(_) => false,
     }
-    Ok(())
+}
+
+#[test]
+fn read_both_versions(rt: HostRuntime) {
+    let alloc = rt.alloc();
+    assert!(rt; is_row_received(alloc, &FIRST_ROW));
+    assert!(rt; is_row_received(alloc, &SECOND_ROW));
 }
 
 /// A text that ends early, and its refusal.
@@ -222,17 +274,12 @@ fn cut_from_reader(rt: HostRuntime) {
 }
 
 #[test]
-fn stream_texts(rt: HostRuntime) -> Result<(), Fail> {
+fn stream_texts(rt: HostRuntime) {
     let alloc = rt.alloc();
     let block = ReadFromError::Image(ReadError::BadBlock(2));
-    assert_eq!(rt; block.to_string(alloc)?.as_str(), "bad block 2");
-    assert_eq!(rt;
-        ReadFromError::ReadFault.to_string(alloc)?.as_str(),
-        "read fault"
-    );
-    assert_eq!(rt;
-        WriteError::WriteFault.to_string(alloc)?.as_str(),
-        "write fault"
-    );
-    Ok(())
+    assert!(rt; says(block.to_string(alloc), "bad block 2"));
+    let read = ReadFromError::ReadFault;
+    assert!(rt; says(read.to_string(alloc), "read fault"));
+    let write = WriteError::WriteFault;
+    assert!(rt; says(write.to_string(alloc), "write fault"));
 }

@@ -3,7 +3,7 @@
 use super::*;
 use crate::limits::{ENTRIES, IMAGES};
 use procedure::{Key, Sequence, Table, Value};
-use std::alloc::Global;
+use std::alloc::{AllocError, Global};
 use std::process::Abort;
 use std::test::Fail;
 
@@ -125,27 +125,36 @@ pub(crate) fn is_full(image: &Image<Global>, number: u64, place: u64, given: &[G
         && are(image.entries(), given)
 }
 
+/// Whether the parts make an image.
+fn is_made(alloc: Global, parts: &Parts) -> Result<bool, Fail> {
+    let entries = entries(alloc, parts.4)?;
+    Ok(Image::new(parts.0, parts.1, parts.2, parts.3, entries).is_some())
+}
+
 #[test]
 fn lawful(rt: HostRuntime) -> Result<(), Fail> {
     let alloc = rt.alloc();
-    for (kind, number, base, given, lawful) in LAWFUL {
-        let made = Image::new(kind, number, base, 7, entries(alloc, given)?);
-        assert_eq!(rt; made.is_some(), lawful, "number {number}, base {base}");
+    for (kind, number, base, given, lawful) in &LAWFUL {
+        let made = is_made(alloc, &(*kind, *number, *base, 7, given))?;
+        assert_eq!(rt; made, *lawful, "number {number}, base {base}");
     }
     Ok(())
+}
+
+/// Whether an image was made with the wanted entries, or none where none is wanted.
+fn has(made: Option<Image<Global>>, wanted: Option<&[Given]>) -> bool {
+    match made {
+        Some(image) => wanted.is_some_and(|sorted| are(image.entries(), sorted)),
+        None => wanted.is_none(),
+    }
 }
 
 #[test]
 fn captured_in_any_order(rt: HostRuntime) -> Result<(), Fail> {
     let alloc = rt.alloc();
-    for (kind, number, base, given, wanted) in CAPTURES {
-        let made = Image::captured(kind, number, base, 7, entries(alloc, given)?);
-        let right = match (&made, wanted) {
-            (Some(image), Some(sorted)) => are(image.entries(), sorted),
-            (None, None) => true,
-            _ => false,
-        };
-        assert!(rt; right, "number {number}, base {base}");
+    for (kind, number, base, given, wanted) in &CAPTURES {
+        let made = Image::captured(*kind, *number, *base, 7, entries(alloc, given)?);
+        assert!(rt; has(made, *wanted), "number {number}, base {base}");
     }
     Ok(())
 }
@@ -184,39 +193,22 @@ fn opening(rt: HostRuntime) -> Result<(), Fail> {
     Ok(())
 }
 
-/// A full image and two partial ones on it: one takes a key away, the other changes one.
-fn chain(alloc: Global) -> Result<(Image<Global>, Vec<Image<Global>>), Fail> {
-    let first = full(alloc, 1, 1, &[(b'a', Some(1)), (b'b', Some(2))])?;
-    let second = partial(alloc, 2, 1, 5, &[(b'a', None), (b'c', Some(7))])?;
-    let third = partial(alloc, 3, 2, 9, &[(b'b', Some(9))])?;
-    Ok((first, vec![in alloc; second, third]?))
-}
-
-#[test]
-fn merged_chain(rt: HostRuntime) -> Result<(), Fail> {
-    let alloc = rt.alloc();
-    let (first, partials) = chain(alloc)?;
-    let all = merge(alloc, &first, partials.as_slice())?;
-    assert!(rt; is_full(&all, 3, 9, &[(b'b', Some(9)), (b'c', Some(7))]));
-    let alone = merge(alloc, &first, &[])?;
-    assert!(rt; is_full(&alone, 1, 1, &[(b'a', Some(1)), (b'b', Some(2))]));
-    Ok(())
-}
-
 /// Kind, number, base, place and entries of an image.
-type Parts = (Kind, u64, u64, u64, &'static [Given]);
+pub(crate) type Parts = (Kind, u64, u64, u64, &'static [Given]);
 
 /// Number, place and entries of a merged image.
 type Whole = (u64, u64, &'static [Given]);
 
-const FIRST: Parts = (Kind::Full, 1, 1, 1, &[(b'a', Some(1)), (b'b', Some(2))]);
+/// A full image. Of the partial ones that stand on it the second takes a key away, and the third changes
+/// one.
+pub(crate) const FIRST: Parts = (Kind::Full, 1, 1, 1, &[(b'a', Some(1)), (b'b', Some(2))]);
 
-const SECOND: Parts = (Kind::Partial, 2, 1, 5, &[(b'a', None), (b'c', Some(7))]);
+pub(crate) const SECOND: Parts = (Kind::Partial, 2, 1, 5, &[(b'a', None), (b'c', Some(7))]);
 
-const THIRD: Parts = (Kind::Partial, 3, 2, 9, &[(b'b', Some(9))]);
+pub(crate) const THIRD: Parts = (Kind::Partial, 3, 2, 9, &[(b'b', Some(9))]);
 
-/// Images in turn, and what they are as one.
-const IN_TURN: [(&[Parts], Result<Whole, MergeError>); 8] = [
+/// Images in turn, and what they are as one: the first row has no image, the next three are chains.
+const IN_TURN: [(&[Parts], Result<Whole, MergeError>); 11] = [
     (&[], Err(MergeError::NotFull)),
     (&[FIRST], Ok((1, 1, &[(b'a', Some(1)), (b'b', Some(2))]))),
     (
@@ -227,70 +219,118 @@ const IN_TURN: [(&[Parts], Result<Whole, MergeError>); 8] = [
         &[FIRST, SECOND, THIRD],
         Ok((3, 9, &[(b'b', Some(9)), (b'c', Some(7))])),
     ),
+    (&[FIRST, THIRD], Err(MergeError::Gap(0))),
     (&[FIRST, THIRD, THIRD], Err(MergeError::Gap(0))),
     (&[FIRST, SECOND, SECOND], Err(MergeError::Gap(1))),
+    (
+        &[FIRST, (Kind::Full, 1, 1, 1, &[])],
+        Err(MergeError::NotPartial(0)),
+    ),
     (&[FIRST, SECOND, FIRST], Err(MergeError::NotPartial(1))),
+    (&[(Kind::Partial, 2, 1, 5, &[])], Err(MergeError::NotFull)),
     (&[SECOND, THIRD, FIRST], Err(MergeError::NotFull)),
 ];
 
-/// The refusal of a merge, and none where it succeeds.
-fn refused(alloc: Global, full: &Image<Global>, partials: &[Image<Global>]) -> Option<MergeError> {
-    merge(alloc, full, partials).err()
+pub(crate) fn image_of(alloc: Global, parts: &Parts) -> Result<Image<Global>, Fail> {
+    let entries = entries(alloc, parts.4)?;
+    Ok(Image::new(parts.0, parts.1, parts.2, parts.3, entries).ok_or("not lawful")?)
+}
+
+fn images_of(alloc: Global, rows: &[Parts]) -> Result<Vec<Image<Global>>, Fail> {
+    let mut made = Vec::new(alloc);
+    for parts in rows {
+        made.push(image_of(alloc, parts)?)?;
+    }
+    Ok(made)
+}
+
+fn is_whole(found: &Result<Image<Global>, MergeError>, whole: &Whole) -> bool {
+    match found {
+        Ok(image) => is_full(image, whole.0, whole.1, whole.2),
+        Err(_) => false,
+    }
+}
+
+fn is_refusal(found: &Result<Image<Global>, MergeError>, wanted: MergeError) -> bool {
+    match found {
+        Ok(_) => false,
+        Err(refusal) => *refusal == wanted,
+    }
+}
+
+/// Whether images as one are what is wanted: the image, or the refusal.
+fn is_wanted(
+    found: &Result<Image<Global>, MergeError>,
+    wanted: &Result<Whole, MergeError>,
+) -> bool {
+    match wanted {
+        Ok(whole) => is_whole(found, whole),
+        Err(refusal) => is_refusal(found, *refusal),
+    }
+}
+
+/// Whether the merge of these images, of which the first is to be full, is what is wanted.
+fn merges(alloc: Global, images: Vec<Image<Global>>, wanted: &Result<Whole, MergeError>) -> bool {
+    match images.as_slice() {
+        [first, partials @ ..] => is_wanted(&merge(alloc, first, partials), wanted),
+        [] => false,
+    }
+}
+
+#[test]
+fn merged_chain(rt: HostRuntime) -> Result<(), Fail> {
+    let alloc = rt.alloc();
+    for place in 1..4 {
+        let (images, wanted) = &IN_TURN[place];
+        assert!(rt;
+            merges(alloc, images_of(alloc, images)?, wanted),
+            "row {place}"
+        );
+    }
+    Ok(())
 }
 
 #[test]
 fn merge_refusals(rt: HostRuntime) -> Result<(), Fail> {
     let alloc = rt.alloc();
-    let (first, partials) = chain(alloc)?;
-    let only_third = partials.get(1..).ok_or("no third")?;
-    assert_eq!(rt;
-        refused(alloc, &first, only_third),
-        Some(MergeError::Gap(0))
-    );
-    let two_full = vec![in alloc; full(alloc, 1, 1, &[])?]?;
-    let not_partial = Some(MergeError::NotPartial(0));
-    assert_eq!(rt; refused(alloc, &first, two_full.as_slice()), not_partial);
-    let lone = partial(alloc, 2, 1, 5, &[])?;
-    assert_eq!(rt; refused(alloc, &lone, &[]), Some(MergeError::NotFull));
+    for place in 4..IN_TURN.len() {
+        let (images, wanted) = &IN_TURN[place];
+        assert!(rt;
+            merges(alloc, images_of(alloc, images)?, wanted),
+            "row {place}"
+        );
+    }
     Ok(())
 }
 
-/// What images are as one that come in turn.
-fn merged_in_turn(
+/// Whether these images, one after another, are as one what is wanted.
+fn merges_in_turn(
     alloc: Global,
-    images: Vec<Image<Global>>,
-) -> Result<Result<Image<Global>, MergeError>, Fail> {
+    images: &[Parts],
+    wanted: &Result<Whole, MergeError>,
+) -> Result<bool, Fail> {
     let mut merger = Merger::new(alloc);
-    for image in images {
+    for parts in images {
+        let image = image_of(alloc, parts)?;
         merger = merger.push(image)?;
     }
-    Ok(merger.finish(alloc))
+    Ok(is_wanted(&merger.finish(alloc), wanted))
 }
 
 #[test]
 fn images_in_turn(rt: HostRuntime) -> Result<(), Fail> {
     let alloc = rt.alloc();
-    for (place, (parts, wanted)) in IN_TURN.iter().enumerate() {
-        let mut images = Vec::new(alloc);
-        for (kind, number, base, place, given) in *parts {
-            let made = Image::new(*kind, *number, *base, *place, entries(alloc, given)?);
-            images.push(made.ok_or("not lawful")?)?;
-        }
-        match (merged_in_turn(alloc, images)?, wanted) {
-            (Ok(image), Ok((number, at, given))) => {
-                assert!(rt; is_full(&image, *number, *at, given), "row {place}")
-            }
-            (Err(refusal), Err(wanted)) => assert_eq!(rt; refusal, *wanted, "row {place}"),
-            _ => panic!(rt; "row {place}"),
-        }
+    for (place, (images, wanted)) in IN_TURN.iter().enumerate() {
+        assert!(rt; merges_in_turn(alloc, images, wanted)?, "row {place}");
     }
     Ok(())
 }
 
-/// Partial images with the numbers from 1 on, each on the one before.
-fn numbered(alloc: Global, count: u64) -> Result<Vec<Image<Global>>, Fail> {
-    let mut made = Vec::new(alloc);
-    for number in 1..=count {
+/// A full image with the number 0 and no entries, and partial ones with the numbers from 1 on, each on
+/// the one before.
+fn numbered(alloc: Global, partials: u64) -> Result<Vec<Image<Global>>, Fail> {
+    let mut made = vec![in alloc; full(alloc, 0, 0, &[])?]?;
+    for number in 1..=partials {
         made.push(partial(alloc, number, number - 1, number, &[(b'a', Some(number))])?)?;
     }
     Ok(made)
@@ -299,56 +339,63 @@ fn numbered(alloc: Global, count: u64) -> Result<Vec<Image<Global>>, Fail> {
 #[test]
 fn longest_chain(rt: HostRuntime) -> Result<(), Fail> {
     let alloc = rt.alloc();
-    let first = full(alloc, 0, 0, &[])?;
-    let partials = numbered(alloc, IMAGES as u64)?;
-    assert_eq!(rt;
-        refused(alloc, &first, partials.as_slice()),
-        Some(MergeError::TooMany)
-    );
-    let fewer = partials.get(..IMAGES - 1).ok_or("no such front")?;
-    let merged = merge(alloc, &first, fewer)?;
-    assert!(rt; is_full(&merged, 63, 63, &[(b'a', Some(63))]));
+    let most = IMAGES as u64;
+    assert!(rt; merges(alloc, numbered(alloc, most)?, &Err(MergeError::TooMany)));
+    let merged: Result<Whole, MergeError> = Ok((63, 63, &[(b'a', Some(63))]));
+    assert!(rt; merges(alloc, numbered(alloc, most - 1)?, &merged));
     Ok(())
 }
+
+/// A kind, a number, its base, and entries: the number that is the key of the first, how many there are,
+/// and whether their keys are gone.
+type Range = (Kind, u64, u64, u32, u32, bool);
+
+/// As many entries as an image may have.
+const MOST: Range = (Kind::Full, 0, 0, 0, ENTRIES as u32, false);
+
+const ONE_MORE: Range = (Kind::Partial, 1, 0, ENTRIES as u32, 1, false);
+
+const ONE_FEWER: Range = (Kind::Partial, 2, 1, 0, 1, true);
 
 /// Entries of consecutive numbers as keys, gone or with an empty value.
 fn range(alloc: Global, from: u32, count: u32, gone: bool) -> Result<Vec<Entry<Global>>, Fail> {
     let mut made = Vec::new(alloc);
     for number in from..from.saturating_add(count) {
-        let cell = if gone { None } else { Some(Value::empty()) };
         let key = Key::new(&number.to_be_bytes()).ok_or("no key")?;
+        let cell = if gone { None } else { Some(Value::empty()) };
         made.push(Entry { key, cell })?;
     }
     Ok(made)
 }
 
-/// A partial image of one entry.
-fn single(
-    alloc: Global,
-    number: u64,
-    base: u64,
-    key: u32,
-    gone: bool,
-) -> Result<Image<Global>, Fail> {
-    let entries = range(alloc, key, 1, gone)?;
-    Ok(Image::new(Kind::Partial, number, base, 0, entries).ok_or("not lawful")?)
+/// The image of a range; None where it isn't lawful.
+fn ranged(alloc: Global, range_of: &Range) -> Result<Option<Image<Global>>, Fail> {
+    let (kind, number, base, from, count, gone) = *range_of;
+    let entries = range(alloc, from, count, gone)?;
+    Ok(Image::new(kind, number, base, 0, entries))
+}
+
+/// How many entries the merge of these images has.
+fn count_merged(alloc: Global, ranges: &[Range]) -> Result<Result<usize, MergeError>, Fail> {
+    let mut images = Vec::new(alloc);
+    for one in ranges {
+        images.push(ranged(alloc, one)?.ok_or("not lawful")?)?;
+    }
+    Ok(match images.as_slice() {
+        [first, partials @ ..] => merge(alloc, first, partials).map(|image| image.entries().len()),
+        [] => Err(MergeError::NotFull),
+    })
 }
 
 #[test]
 fn most_entries(rt: HostRuntime) -> Result<(), Fail> {
     let alloc = rt.alloc();
-    let most = ENTRIES as u32;
-    assert!(rt; Image::new(Kind::Full, 0, 0, 0, range(alloc, 0, most + 1, false)?).is_none());
-    let first = Image::new(Kind::Full, 0, 0, 0, range(alloc, 0, most, false)?).ok_or("too many")?;
-    let one_more = single(alloc, 1, 0, most, false)?;
-    let one_fewer = single(alloc, 2, 1, 0, true)?;
-    let partials = vec![in alloc; one_more, one_fewer]?;
-    let front = partials.get(..1).ok_or("no front")?;
-    assert_eq!(rt; refused(alloc, &first, front), Some(MergeError::TooMany));
-    assert_eq!(rt;
-        merge(alloc, &first, partials.as_slice())?.entries().len(),
-        ENTRIES
-    );
+    let too_many = (Kind::Full, 0, 0, 0, ENTRIES as u32 + 1, false);
+    assert!(rt; ranged(alloc, &too_many)?.is_none());
+    let too_many = Err(MergeError::TooMany);
+    assert_eq!(rt; count_merged(alloc, &[MOST, ONE_MORE])?, too_many);
+    let merged = count_merged(alloc, &[MOST, ONE_MORE, ONE_FEWER])?;
+    assert_eq!(rt; merged, Ok(ENTRIES));
     Ok(())
 }
 
@@ -400,8 +447,8 @@ fn bad_forms(rt: HostRuntime) -> Result<(), Fail> {
         chain: NO_ENTRIES,
         ..HEADER
     };
-    for header in [counts_three, on_another, of_none] {
-        assert!(rt; is_bad(alloc, &header, &CAPTURED)?);
+    for header in &[counts_three, on_another, of_none] {
+        assert!(rt; is_bad(alloc, header, &CAPTURED)?);
     }
     assert!(rt; is_bad(alloc, &HEADER, &[CAPTURED[1], CAPTURED[0]])?);
     assert!(rt; is_bad(alloc, &HEADER, &[(b'b', Some(2))])?);
@@ -432,8 +479,16 @@ fn unlawful_entries(rt: HostRuntime) -> Result<(), Fail> {
     Ok(())
 }
 
+/// Whether a refusal says this.
+pub(crate) fn says(made: Result<String<Global>, AllocError>, text: &str) -> bool {
+    match made {
+        Ok(made) => made.as_str() == text,
+        Err(_) => false,
+    }
+}
+
 #[test]
-fn texts(rt: HostRuntime) -> Result<(), Fail> {
+fn texts(rt: HostRuntime) {
     let alloc = rt.alloc();
     let rows = [
         (MergeError::TooMany, "too many"),
@@ -442,16 +497,9 @@ fn texts(rt: HostRuntime) -> Result<(), Fail> {
         (MergeError::Gap(0), "gap 0"),
         (MergeError::NoMemory, "no memory"),
     ];
-    for (refusal, text) in rows {
-        assert_eq!(rt; refusal.to_string(alloc)?.as_str(), text);
+    for (refusal, text) in &rows {
+        assert!(rt; says(refusal.to_string(alloc), text), "{text}");
     }
-    assert_eq!(rt;
-        AssembleError::BadForm.to_string(alloc)?.as_str(),
-        "bad form"
-    );
-    assert_eq!(rt;
-        OpeningError::TooMany.to_string(alloc)?.as_str(),
-        "too many"
-    );
-    Ok(())
+    assert!(rt; says(AssembleError::BadForm.to_string(alloc), "bad form"));
+    assert!(rt; says(OpeningError::TooMany.to_string(alloc), "too many"));
 }

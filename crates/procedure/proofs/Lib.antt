@@ -5,6 +5,7 @@ pub mod Copies
 pub mod Arithmetic
 pub mod Steps
 pub mod Faults
+pub mod KeyOrders
 pub mod Maps
 pub mod Results
 pub mod Slices

@@ -1,13 +1,16 @@
 //! Keys, held inline.
 
-ghost use Rattle.std.specs.Prelude.{◌≡◌, ◌<◌, ◌≤◌, ◌+◌, [], ◌∷◌, ◌++◌, length, take, drop, IfSome, IsSome, IsTrue, ◌↔◌, Some, refl, nat_eq};
+ghost use Rattle.std.specs.Prelude.{◌≡◌, ◌<◌, ◌≤◌, ◌+◌, [], ◌∷◌, ◌++◌, length, take, drop, slice_index, ℕ, IfSome, IsSome, IsTrue, ◌↔◌, Some, refl, nat_eq};
 ghost use Rattle.std.specs.Ordering.{nat_cmp};
 ghost use Rattle.std.specs.Cmp.Lexicographic.{pointwise, slice_cmp, nat_list_eq_equiv, nat_list_cmp_total, texts_ties, texts_po};
 ghost use Rattle.std.specs.Cmp.{partial_equiv_from_equiv};
 ghost use Rattle.std.specs.Cmp.Rules.{hashing};
 ghost use Rattle.std.proofs.Common.{rules};
+ghost use Rattle.byteorder.specs.Endian.{big_number};
+ghost use Rattle.procedure.specs.Keys.{padded};
 
 use crate::limits::KEY_BYTES;
+use byteorder::{BigEndian, ByteOrder};
 use std::cmp::Ordering;
 use std::hash::{Hash, Hasher};
 use std::marker::Model;
@@ -37,6 +40,16 @@ impl Model for Key {
     ghost inverse = { packed };
 
     ghost inverse_ok = { packed-key_bytes };
+}
+
+/// The number in the first eight places.
+#[inline]
+fn number_in(places: &[u8]) -> u64
+    requires { 8 ≤ length places.now }
+    ensures value { result ≡ big_number 8 places.now }
+    ensures bytes { (i : ℕ) → slice_index places.now i < 256 }
+{
+    BigEndian::read_u64(places)
 }
 
 impl Key {
@@ -72,6 +85,15 @@ impl Key {
         ensures fits { length self.now ≤ KEY_BYTES }
     {
         &self.bytes[..self.len as usize]
+    }
+
+    /// The first eight places as one number, which is in the order of those bytes.
+    #[inline]
+    fn front(&self) -> u64
+        ensures value { result ≡ big_number 8 (padded self.now) }
+        ensures bytes { (i : ℕ) → slice_index self.now i < 256 }
+    {
+        number_in(&self.bytes)
     }
 }
 
@@ -112,7 +134,12 @@ impl Ord for Key {
 
     #[inline]
     fn cmp(&self, other: &Self) -> Ordering {
-        self.as_bytes().cmp(other.as_bytes())
+        match self.front().cmp(&other.front()) {
+            Ordering::Less => Ordering::Less,
+            Ordering::Greater => Ordering::Greater,
+            // Bytes behind the eighth decide, or none.
+            Ordering::Equal => self.as_bytes().cmp(other.as_bytes()),
+        }
     }
 }
 

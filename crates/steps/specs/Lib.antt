@@ -2,6 +2,7 @@ pub mod Checkpointing
 pub mod CoreViews
 pub mod CutImages
 pub mod Drives
+pub mod GivenArguments
 pub mod Openings
 pub mod Promises
 pub mod Reclaiming

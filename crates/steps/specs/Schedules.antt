@@ -105,7 +105,7 @@ module _ {A : Type 0} where
   without_image r = record { reply = r; image = None }
 
   abbrev pub Handles : Event A → (old new : CoreView) → Handled A → Type 0
-  Handles (event.Begin s n p args) old new x = (r : Result (Unit {0}) BeginError) × (x ≡ without_image (reply.Begin r)) × BeginsAs old new s n p (map (λ b. b.items) args.items) r
+  Handles (event.Begin s n p args) old new x = (r : Result (Unit {0}) BeginError) × (x ≡ without_image (reply.Begin r)) × BeginsAs old new s n p args r
   Handles (event.Step s) old new x = (r : Result Stepped StepError) × (x ≡ without_image (reply.Step r)) × StepsAs old new s r
   Handles (event.Finish s) old new x = (r : Result (Answer A) FinishError) × (x ≡ without_image (reply.Finish r)) × FinishesAs old new s r
   Handles (event.GiveUp s) old new x = (r : Result (Unit {0}) NotActive) × (x ≡ without_image (reply.GiveUp r)) × GivesUpAs old new s r
@@ -160,7 +160,7 @@ module _ {A : Type 0} where
   -- with what each session's open call was begun, where an event is accepted
   abbrev pub begun_by : Event A → Bool → List (Option Begun) → List (Option Begun)
   begun_by e false b = b
-  begun_by (event.Begin s n p args) true b = slice_set b s (Some (record { number = n; procedure = p; args = map (λ b. b.items) args.items }))
+  begun_by (event.Begin s n p args) true b = slice_set b s (Some (record { number = n; procedure = p; args = args }))
   begun_by (event.Step s) true b = b
   begun_by (event.Finish s) true b = slice_set b s None
   begun_by (event.GiveUp s) true b = slice_set b s None

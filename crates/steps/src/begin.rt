@@ -1,6 +1,6 @@
 //! How a call begins.
 
-ghost use Rattle.std.specs.Prelude.{◌≡◌, ◌<◌, ◌≤◌, ◌↔◌, [], IfOk, OnOk, OnErr, IsSome, IsTrue, length, map, None, Some, Ok, slice_get, true};
+ghost use Rattle.std.specs.Prelude.{◌≡◌, ◌<◌, ◌≤◌, ◌↔◌, [], IfOk, OnOk, OnErr, IsSome, IsTrue, None, Some, Ok, slice_get, true};
 ghost use Rattle.std.specs.Result.{result_err};
 ghost use Rattle.procedure.specs.Runs.{at_start};
 ghost use Rattle.procedure.specs.declared.limits.TheConstants.{SESSIONS};
@@ -10,43 +10,15 @@ ghost use Rattle.steps.specs.CoreViews.{open_at, with_call};
 ghost use Rattle.steps.specs.Refusals.{Answers, all_fit, begin_refusal};
 ghost use Rattle.steps.specs.declared.errors.BeginError.TheVariants as refused;
 
+use crate::arguments::Arguments;
 use crate::calls::OpenCall;
 use crate::cores::Core;
 use crate::errors::BeginError;
 use crate::notes::begin_notes;
 use phase::Phase;
-use procedure::limits::{SESSIONS, VALUE_BYTES};
-use procedure::{Machine, NoMemory, Procedure, Sequence, Value};
+use procedure::limits::SESSIONS;
+use procedure::{Machine, NoMemory, Procedure};
 use std::alloc::Allocator;
-
-/// Whether the arguments are none too long for values.
-fn all_fit<A: Allocator>(args: &[Vec<u8, A>]) -> bool
-    ensures { result ≡ all_fit (map (λ b. b.items) args.now) }
-{
-    for bytes in args {
-        if bytes.len() > VALUE_BYTES {
-            return false;
-        }
-    }
-    true
-}
-
-/// The arguments as values, by move.
-fn values_of<A: Allocator + Clone>(
-    alloc: A,
-    args: Vec<Vec<u8, A>, A>,
-) -> Result<Vec<Value<A>, A>, NoMemory>
-    requires { IsTrue (all_fit (map (λ b. b.items) args.items)) }
-    ensures { IfOk result (λ values. values.items ≡ map (λ b. b.items) args.items) }
-{
-    let mut values = Vec::with_capacity(alloc, args.len())?;
-    for bytes in args {
-        if let Some(value) = Value::new(bytes) {
-            values.push_reserved(value);
-        }
-    }
-    Ok(values)
-}
 
 /// A call at its start.
 fn new_call<A: Allocator + Clone>(
@@ -55,15 +27,15 @@ fn new_call<A: Allocator + Clone>(
     number: u64,
     index: u16,
     start: Phase,
-    args: Vec<Vec<u8, A>, A>,
+    args: Arguments<A>,
 ) -> Result<OpenCall<A>, NoMemory>
-    requires { IsTrue (all_fit (map (λ b. b.items) args.items)) }
-    ensures call { IfOk result (λ c. underway c ≡ record { number = number; procedure = index; args = map (λ b. b.items) args.items; start = start; count = 0 }) }
+    requires { IsTrue (all_fit args) }
+    ensures call { IfOk result (λ c. underway c ≡ record { number = number; procedure = index; args = args; start = start; count = 0 }) }
     ensures progress { IfOk result (λ c. c.machine.progress ≡ at_start procedure.now.code) }
     ensures notes { IfOk result (λ c. c.notes.items ≡ []) }
 {
-    let values = values_of(alloc.clone()?, args)?;
-    let machine = Machine::start(alloc.clone()?, procedure, Sequence::new(values))?;
+    let values = args.into_values(alloc.clone()?)?;
+    let machine = Machine::start(alloc.clone()?, procedure, values)?;
     Ok(OpenCall {
         number,
         procedure: index,
@@ -91,9 +63,9 @@ impl<A: Allocator + Clone> Core<A> {
         session: u16,
         number: u64,
         procedure: u16,
-        args: &[Vec<u8, A>],
+        args: &Arguments<A>,
     ) -> Result<&Procedure<A>, BeginError>
-        ensures refusal { result_err result ≡ begin_refusal self.now session number procedure (map (λ b. b.items) args.now) }
+        ensures refusal { result_err result ≡ begin_refusal self.now session number procedure args.now }
         ensures procedure { IfOk result (λ p. slice_get self.now.catalog procedure ≡ Some p.now) }
     {
         if session >= SESSIONS {
@@ -103,10 +75,10 @@ impl<A: Allocator + Clone> Core<A> {
         let Some(found) = self.catalog.procedure(usize::from(procedure)) else {
             return Err(BeginError::NoProcedure);
         };
-        if usize::from(found.arity) != args.len() {
+        if usize::from(found.arity) != args.count() {
             return Err(BeginError::Arity);
         }
-        if !all_fit(args) {
+        if !args.fit() {
             return Err(BeginError::ArgSize);
         }
         if self.calls[index].is_some() {
@@ -124,15 +96,15 @@ impl<A: Allocator + Clone> Core<A> {
         session: u16,
         number: u64,
         procedure: u16,
-        args: Vec<Vec<u8, A>, A>,
+        args: Arguments<A>,
     ) -> Result<OpenCall<A>, BeginError>
-        ensures refusal { Answers (begin_refusal self.now session number procedure (map (λ b. b.items) args.items)) refused.NoMemory result }
-        ensures call { IfOk result (λ c. underway c ≡ record { number = number; procedure = procedure; args = map (λ b. b.items) args.items; start = phase_of self.now.log; count = 0 }) }
+        ensures refusal { Answers (begin_refusal self.now session number procedure args) refused.NoMemory result }
+        ensures call { IfOk result (λ c. underway c ≡ record { number = number; procedure = procedure; args = args; start = phase_of self.now.log; count = 0 }) }
         ensures progress { IfOk result (λ c. c.machine.progress ≡ at_start (code_of self.now.catalog procedure)) }
         ensures notes { IfOk result (λ c. c.notes.items ≡ []) }
     {
         let start = self.phase();
-        let code = self.check_begin(session, number, procedure, args.as_slice())?;
+        let code = self.check_begin(session, number, procedure, &args)?;
         match new_call(&self.alloc, code, number, procedure, start, args) {
             Ok(call) => Ok(call),
             Err(NoMemory) => Err(BeginError::NoMemory),
@@ -145,12 +117,12 @@ impl<A: Allocator + Clone> Core<A> {
         session: u16,
         number: u64,
         procedure: u16,
-        args: Vec<Vec<u8, A>, A>,
+        args: Arguments<A>,
     ) -> Result<(), BeginError>
-        ensures begun { OnOk result (self.new ≡ with_call self.old session (Some (record { number = number; procedure = procedure; args = map (λ b. b.items) args.items; start = phase_of self.old.log; count = 0 }))) }
-        ensures open { OnOk result (open_at self.new session ≡ Some (record { number = number; procedure = procedure; args = map (λ b. b.items) args.items; start = phase_of self.old.log; count = 0 })) }
+        ensures begun { OnOk result (self.new ≡ with_call self.old session (Some (record { number = number; procedure = procedure; args = args; start = phase_of self.old.log; count = 0 }))) }
+        ensures open { OnOk result (open_at self.new session ≡ Some (record { number = number; procedure = procedure; args = args; start = phase_of self.old.log; count = 0 })) }
         ensures refused { OnErr result (self.new ≡ self.old) }
-        ensures refusal { Answers (begin_refusal self.old session number procedure (map (λ b. b.items) args.items)) refused.NoMemory result }
+        ensures refusal { Answers (begin_refusal self.old session number procedure args) refused.NoMemory result }
     {
         let mut call = self.prepare(session, number, procedure, args)?;
         let index = usize::from(session);

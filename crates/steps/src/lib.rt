@@ -11,6 +11,7 @@
 //! `specs/machine/`, and how its fields stand for that in `specs/inside/`.
 #![tactic(auto)]
 
+pub mod arguments;
 mod begin;
 mod calls;
 pub mod captures;
@@ -36,6 +37,7 @@ pub mod step;
 pub mod streaming;
 pub mod versions;
 
+pub use arguments::Arguments;
 pub use captures::Captured;
 pub use checkpoints::Way;
 pub use cores::Core;

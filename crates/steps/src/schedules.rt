@@ -3,6 +3,7 @@
 ghost use Rattle.std.specs.Prelude.{◌≡◌};
 ghost use Rattle.steps.specs.Schedules.{Handles, without_image};
 
+use crate::arguments::Arguments;
 use crate::captures::Captured;
 use crate::cores::Core;
 use crate::errors::{
@@ -20,7 +21,7 @@ use std::alloc::Allocator;
 #[derive(Debug, Drop)]
 pub enum Event<A: Allocator> {
     /// A session, a number, a procedure by its index, and arguments.
-    Begin(u16, u64, u16, Vec<Vec<u8, A>, A>),
+    Begin(u16, u64, u16, Arguments<A>),
     /// A session executes the next instruction of its call.
     Step(u16),
     /// A session's call is answered.

@@ -1,3 +1,4 @@
+mod CopiedItems
 pub mod CoreGrowth
 pub mod Counting
 pub mod Faults

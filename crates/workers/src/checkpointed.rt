@@ -1,6 +1,6 @@
 //! A core with the images of its checkpoints.
 
-ghost use Rattle.std.specs.Prelude.{◌≡◌, ◌+◌, ◌++◌, ◌∷◌, ◌≤◌, [], IfOk, IsOk, MatchResult, None, OnErr, OnOk, Some, drop, length, map, option_copied};
+ghost use Rattle.std.specs.Prelude.{◌≡◌, ◌+◌, ◌++◌, ◌∷◌, ◌≤◌, [], IfOk, IsOk, MatchResult, None, OnErr, OnOk, Some, drop, length, option_copied};
 ghost use Rattle.pipe.specs.Rings.{SameTap};
 ghost use Rattle.steps.specs.Schedules.{AdvancesAs, BeginsAs, FinishesAs, GivesUpAs, StartsAs, StepsAs, VisitsAs};
 ghost use Rattle.workers.specs.Streams.{SendsAs, StreamsAs};
@@ -18,8 +18,8 @@ use procedure::NoMemory;
 use std::alloc::Allocator;
 use std::marker::Model;
 use steps::{
-    AdvanceError, Answer, BeginError, CaptureError, CaptureToError, Captured, Core, FinishError,
-    NotActive, StartError, StepError, Stepped,
+    AdvanceError, Answer, Arguments, BeginError, CaptureError, CaptureToError, Captured, Core,
+    FinishError, NotActive, StartError, StepError, Stepped,
 };
 
 /// A core, and images that were taken of it. Each is the image of its checkpoint in the core's log.
@@ -162,9 +162,9 @@ impl<A: Allocator + Clone> Checkpointed<A> {
         session: u16,
         number: u64,
         procedure: u16,
-        args: Vec<Vec<u8, A>, A>,
+        args: Arguments<A>,
     ) -> Result<(), BeginError>
-        ensures core { BeginsAs self.old.core self.new.core session number procedure (map (λ b. b.items) args.items) result }
+        ensures core { BeginsAs self.old.core self.new.core session number procedure args result }
         ensures images { self.new.images ≡ self.old.images }
         ensures origin { KeepsOrigin self.old.core self.new.core }
         ensures log { self.new.core.log ≡ self.old.core.log }

@@ -1,9 +1,9 @@
 //! Copies of what is handed on.
 
-ghost use Rattle.std.specs.Prelude.{◌≡◌, IfOk, map};
+ghost use Rattle.std.specs.Prelude.{◌≡◌, IfOk};
 
 use image::{Entry, Image};
-use procedure::{NoMemory, Value};
+use procedure::{NoMemory, Sequence, Value};
 use std::alloc::{AllocError, Allocator};
 
 fn copy_of_entry<A: Allocator + Clone>(entry: &Entry<A>) -> Result<Entry<A>, AllocError>
@@ -45,22 +45,22 @@ pub(crate) fn copy_of_image<A: Allocator + Clone>(
     }
 }
 
-fn copy_of_bytes<A: Allocator + Clone>(alloc: A, bytes: &[u8]) -> Result<Vec<u8, A>, AllocError>
-    ensures { IfOk result (λ v. v.items ≡ bytes.now) }
+fn copy_of_arg<A: Allocator + Clone>(arg: &Value<A>) -> Result<Value<A>, AllocError>
+    ensures { IfOk result (λ v. v ≡ arg.now) }
 {
-    Vec::from_slice(alloc, bytes)
+    arg.clone()
 }
 
-/// The bytes of arguments.
+/// The same arguments.
 pub(crate) fn copy_of_args<A: Allocator + Clone>(
     alloc: &A,
     args: &[Value<A>],
-) -> Result<Vec<Vec<u8, A>, A>, NoMemory>
-    ensures { IfOk result (λ v. map (λ b. b.items) v.items ≡ args.now) }
+) -> Result<Sequence<Value<A>, A>, NoMemory>
+    ensures { IfOk result (λ v. v ≡ args.now) }
 {
     let mut copy = Vec::with_capacity(alloc.clone()?, args.len())?;
     for arg in args {
-        copy.push_reserved(copy_of_bytes(alloc.clone()?, arg.as_bytes())?);
+        copy.push_reserved(copy_of_arg(arg)?);
     }
-    Ok(copy)
+    Ok(Sequence::new(copy))
 }

@@ -161,8 +161,24 @@ fn checkpoint(
     lap: (Way, Kind, &[Line]),
 ) -> Result<Image<Global>, Fail> {
     let mut entries = Vec::new(alloc);
-    run(alloc, core, ends, &mut entries, lap)?;
-    finished(alloc, core, entries.as_slice())
+    let image = match run(alloc, core, ends, &mut entries, lap) {
+        Ok(_) => finished(alloc, core, entries.as_slice()),
+        Err(fail) => Err(fail),
+    };
+    drop(entries);
+    image
+}
+
+/// Makes a checkpoint and keeps its image.
+fn keep(
+    alloc: Global,
+    core: &mut Core<Global>,
+    ends: &mut Ends,
+    images: &mut Vec<Image<Global>>,
+    lap: (Way, Kind, &[Line]),
+) -> Result<(), Fail> {
+    let image = checkpoint(alloc, core, ends, lap)?;
+    Ok(images.push(image)?)
 }
 
 /// The images of the checkpoints, which all go this way.
@@ -173,8 +189,8 @@ fn checkpoints(
     images: &mut Vec<Image<Global>>,
     way: Way,
 ) -> Result<(), Fail> {
-    for (kind, calls, _) in LAPS {
-        images.push(checkpoint(alloc, core, ends, (way, kind, calls))?)?;
+    for (kind, calls, _) in LAPS.iter() {
+        keep(alloc, core, ends, images, (way, *kind, *calls))?;
     }
     Ok(())
 }
@@ -185,19 +201,34 @@ fn checkpoints_of_a_core(
     images: &mut Vec<Image<Global>>,
     way: Way,
 ) -> Result<(), Fail> {
-    let mut ends = ring_of_one(alloc)?;
     let mut core = opened(alloc)?;
-    let made = checkpoints(alloc, &mut core, &mut ends, images, way);
+    let made = match ring_of_one(alloc) {
+        Ok(mut ends) => {
+            let made = checkpoints(alloc, &mut core, &mut ends, images, way);
+            drop(ends);
+            made
+        }
+        Err(fail) => Err(fail),
+    };
     drop(core);
     made
+}
+
+fn fill(alloc: Global, images: &mut Vec<Image<Global>>, way: Way) -> Result<(), Fail> {
+    images.push(opening(alloc)?)?;
+    checkpoints_of_a_core(alloc, images, way)
 }
 
 /// The opening and then those images, so that each stands at its number.
 fn images(alloc: Global, way: Way) -> Result<Vec<Image<Global>>, Fail> {
     let mut images = Vec::new(alloc);
-    images.push(opening(alloc)?)?;
-    checkpoints_of_a_core(alloc, &mut images, way)?;
-    Ok(images)
+    match fill(alloc, &mut images, way) {
+        Ok(()) => Ok(images),
+        Err(fail) => {
+            drop(images);
+            Err(fail)
+        }
+    }
 }
 
 fn are(entries: &[Entry<Global>], cells: &[Cell]) -> bool {
@@ -233,8 +264,8 @@ fn count_same(
     streamed: &[Image<Global>],
     whole: &[Image<Global>],
 ) -> Result<usize, Fail> {
-    for (i, (_, _, cells)) in LAPS.into_iter().enumerate() {
-        if !is_same(alloc, streamed, whole, (i.saturating_add(1), cells))? {
+    for (i, (_, _, cells)) in LAPS.iter().enumerate() {
+        if !is_same(alloc, streamed, whole, (i.saturating_add(1), *cells))? {
             return Ok(i);
         }
     }
@@ -243,8 +274,16 @@ fn count_same(
 
 fn both_ways(alloc: Global) -> Result<usize, Fail> {
     let streamed = images(alloc, Way::Streamed)?;
-    let whole = images(alloc, Way::Whole)?;
-    count_same(alloc, streamed.as_slice(), whole.as_slice())
+    let same = match images(alloc, Way::Whole) {
+        Ok(whole) => {
+            let same = count_same(alloc, streamed.as_slice(), whole.as_slice());
+            drop(whole);
+            same
+        }
+        Err(fail) => Err(fail),
+    };
+    drop(streamed);
+    same
 }
 
 #[test]
@@ -276,19 +315,24 @@ const CHAINS: [Chain; 5] = [
 /// Whether the images of a chain make what they should.
 fn is_right(alloc: Global, images: &[Image<Global>], (full, (from, end), wanted): Chain) -> bool {
     match (images.get(full), images.get(from..end)) {
-        (Some(full), Some(partials)) => match (merge(alloc, full, partials), wanted) {
-            (Ok(image), Ok(cells)) => are(image.entries(), cells),
-            (Err(refused), Err(wanted)) => refused == wanted,
-            _ => false,
-        },
+        (Some(full), Some(partials)) => {
+            let made = merge(alloc, full, partials);
+            let right = match (&made, wanted) {
+                (Ok(image), Ok(cells)) => are(image.entries(), cells),
+                (Err(refused), Err(wanted)) => *refused == wanted,
+                _ => false,
+            };
+            drop(made);
+            right
+        }
         _ => false,
     }
 }
 
 /// How many chains make what they should, before one that doesn't.
 fn count_chains(alloc: Global, images: &[Image<Global>]) -> usize {
-    for (i, chain) in CHAINS.into_iter().enumerate() {
-        if !is_right(alloc, images, chain) {
+    for (i, chain) in CHAINS.iter().enumerate() {
+        if !is_right(alloc, images, *chain) {
             return i;
         }
     }
@@ -297,7 +341,9 @@ fn count_chains(alloc: Global, images: &[Image<Global>]) -> usize {
 
 fn chains(alloc: Global) -> Result<usize, Fail> {
     let images = images(alloc, Way::Streamed)?;
-    Ok(count_chains(alloc, images.as_slice()))
+    let right = count_chains(alloc, images.as_slice());
+    drop(images);
+    Ok(right)
 }
 
 #[test]
@@ -338,23 +384,35 @@ fn count_sides(
     one: &mut Ends,
     other: &mut Ends,
 ) -> Result<usize, Fail> {
-    for (i, (side, ask, expected)) in SIDES.into_iter().enumerate() {
+    for (i, (side, ask, expected)) in SIDES.iter().enumerate() {
         let said = match side {
-            Side::One => answer(alloc, core, &mut one.tap, &mut one.drain, ask)?,
-            Side::Other => answer(alloc, core, &mut other.tap, &mut other.drain, ask)?,
+            Side::One => answer(alloc, core, &mut one.tap, &mut one.drain, *ask)?,
+            Side::Other => answer(alloc, core, &mut other.tap, &mut other.drain, *ask)?,
         };
-        if said != expected {
+        if said != *expected {
             return Ok(i);
         }
     }
     Ok(SIDES.len())
 }
 
-fn sides(alloc: Global) -> Result<usize, Fail> {
+fn sides_of(alloc: Global, core: &mut Core<Global>) -> Result<usize, Fail> {
     let mut one = ring_of_one(alloc)?;
-    let mut other = ring_of_one(alloc)?;
+    let sides = match ring_of_one(alloc) {
+        Ok(mut other) => {
+            let sides = count_sides(alloc, core, &mut one, &mut other);
+            drop(other);
+            sides
+        }
+        Err(fail) => Err(fail),
+    };
+    drop(one);
+    sides
+}
+
+fn sides(alloc: Global) -> Result<usize, Fail> {
     let mut core = opened(alloc)?;
-    let sides = count_sides(alloc, &mut core, &mut one, &mut other);
+    let sides = sides_of(alloc, &mut core);
     drop(core);
     sides
 }

@@ -131,13 +131,18 @@ fn procedure(
     })
 }
 
+fn del() -> Instr<Value<Global>> {
+    Instr::Delete(Operand::Arg(0))
+}
+
+fn set() -> Instr<Value<Global>> {
+    Instr::Put(Operand::Arg(0), Operand::Arg(1))
+}
+
 pub(crate) fn catalog(alloc: Global) -> Result<Catalog<Global>, Fail> {
-    let del = Instr::Delete(Operand::Arg(0));
-    let set = Instr::Put(Operand::Arg(0), Operand::Arg(1));
     let mut procedures = Vec::new(alloc);
-    for (arity, instruction) in [(1, del), (2, set)] {
-        procedures.push(procedure(alloc, arity, instruction)?)?;
-    }
+    procedures.push(procedure(alloc, 1, del())?)?;
+    procedures.push(procedure(alloc, 2, set())?)?;
     Ok(Catalog::new(Sequence::new(procedures))?)
 }
 
@@ -173,7 +178,7 @@ pub(crate) fn called(
     procedure: u16,
     args: Vec<Vec<u8>>,
 ) -> &'static str {
-    if let Err(refused) = core.begin(0, number, procedure, args) {
+    if let Err(refused) = core.begin(0, number, procedure, Arguments::of_bytes(args)) {
         return refused.name();
     }
     if let Err(refused) = core.step(0) {
@@ -262,22 +267,37 @@ pub(crate) fn answer(
     }
 }
 
+/// Whether a row is answered as it should be.
+fn is_right(
+    alloc: Global,
+    core: &mut Core<Global>,
+    tap: &mut Tap<Global>,
+    drain: &mut Drain<Global>,
+    row: &(Ask, Said),
+) -> Result<bool, Fail>
+    ensures tap { SameTap tap.old tap.new }
+    ensures drain { SameDrain drain.old drain.new }
+{
+    Ok(answer(alloc, core, tap, drain, row.0)? == row.1)
+}
+
 /// How many are answered as they should be, before one that isn't.
 fn count_right(
     alloc: Global,
     core: &mut Core<Global>,
     tap: &mut Tap<Global>,
     drain: &mut Drain<Global>,
+    rows: &[(Ask, Said)],
 ) -> Result<usize, Fail>
     requires { IsPair tap.old drain.old }
     ensures { IsPair tap.new drain.new }
 {
-    for (i, (ask, expected)) in ROW.iter().enumerate() {
-        if answer(alloc, core, tap, drain, *ask)? != *expected {
+    for (i, row) in rows.iter().enumerate() {
+        if !is_right(alloc, core, tap, drain, row)? {
             return Ok(i);
         }
     }
-    Ok(ROW.len())
+    Ok(rows.len())
 }
 
 /// What a header and entries make: how the image begins, and its last entry.
@@ -292,13 +312,8 @@ fn made(alloc: Global, header: &Header, entries: &[Entry<Global>]) -> Made {
     Ok((image.place(), image.entries().len(), last))
 }
 
-/// What came through the ring makes the images of both checkpoints; with a wrong count, or in another
-/// order, it makes none.
-fn made_of(alloc: Global, tap: Tap<Global>, drain: Drain<Global>) -> Option<[Made; 4]>
-    requires { IsPair tap drain }
-{
-    let end = tap.end()?;
-    let mut all = drain.all_after(end);
+/// What the entries make.
+fn all_made(alloc: Global, all: &mut [Entry<Global>]) -> Option<[Made; 4]> {
     let short = Header { count: 2, ..FULL };
     let full = made(alloc, &FULL, all.get(..3)?);
     let partial = made(alloc, &PARTIAL, all.get(3..)?);
@@ -306,6 +321,25 @@ fn made_of(alloc: Global, tap: Tap<Global>, drain: Drain<Global>) -> Option<[Mad
     all.swap(0, 1);
     let turned = made(alloc, &FULL, all.get(..3)?);
     Some([full, partial, short, turned])
+}
+
+/// What came through the ring makes the images of both checkpoints; with a wrong count, or in another
+/// order, it makes none.
+fn made_of(alloc: Global, tap: Tap<Global>, drain: Drain<Global>) -> Option<[Made; 4]>
+    requires { IsPair tap drain }
+{
+    match tap.end() {
+        Some(end) => {
+            let mut all = drain.all_after(end);
+            let made = all_made(alloc, all.as_mut_slice());
+            drop(all);
+            made
+        }
+        None => {
+            drop(drain);
+            None
+        }
+    }
 }
 
 const MADE: [Made; 4] = [
@@ -330,7 +364,7 @@ fn count_answered(
     ensures { IsPair tap.new drain.new }
 {
     let mut core = opened(alloc)?;
-    let right = count_right(alloc, &mut core, tap, drain);
+    let right = count_right(alloc, &mut core, tap, drain, &ROW);
     drop(core);
     right
 }
@@ -338,8 +372,9 @@ fn count_answered(
 /// The same through a ring of one entry, and what came through it makes.
 fn streamed(alloc: Global) -> Result<(usize, Option<[Made; 4]>), Fail> {
     let (mut tap, mut drain) = ring(alloc, 1)?;
-    let right = count_answered(alloc, &mut tap, &mut drain)?;
-    Ok((right, made_of(alloc, tap, drain)))
+    let right = count_answered(alloc, &mut tap, &mut drain);
+    let made = made_of(alloc, tap, drain);
+    Ok((right?, made))
 }
 
 #[test]

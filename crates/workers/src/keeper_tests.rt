@@ -5,8 +5,9 @@ ghost use Rattle.view.specs.Views.{name_of};
 
 use crate::gates::Open;
 use crate::keepers::Keeper;
-use crate::run_tests::{GET, Line, SET, SWAP, opened, scripts};
-use crate::runs::{NotRun, Report, Script, run_kept};
+use crate::run_tests::{Begun, GET, Line, SET, SWAP, begun_with};
+use crate::runs::{NotRun, Report, run_kept};
+use crate::shares::Share;
 use commitlog::{Entry, Record};
 use image::{Image, Kind};
 use std::alloc::Global;
@@ -93,34 +94,55 @@ fn sum_of(core: &Core<Global>, images: &[Image<Global>]) -> Sum {
 /// many answers each of two sessions was given.
 type Outcome = (bool, usize, [usize; 2]);
 
+/// How many answers the first and the last session were given.
+fn answers_in(shares: &[Share<(), Global>]) -> Option<[usize; 2]> {
+    let first = shares.first()?.answers.len();
+    let last = shares.last()?.answers.len();
+    Some([first, last])
+}
+
 fn outcome_of<J: Naming, R: Wait>(
     report: Report<J, &R, Global>,
     keeper: Summing,
 ) -> Option<Outcome> {
-    let is_told = sum_of(&report.core, report.images.as_slice()) == keeper.sum;
-    let images = report.images.len();
-    let shares = report.shares.as_slice();
-    let first = shares.first()?.answers.len();
-    let last = shares.last()?.answers.len();
-    Some((is_told, images, [first, last]))
+    let Report {
+        core,
+        shares,
+        images,
+        checkpoints: _,
+        publisher,
+        last,
+    } = report;
+    let is_told = sum_of(&core, images.as_slice()) == keeper.sum;
+    let count = images.len();
+    let answers = answers_in(shares.as_slice());
+    drop(core);
+    drop(shares);
+    drop(images);
+    drop(publisher);
+    drop(last);
+    drop(keeper);
+    Some((is_told, count, answers?))
 }
 
 fn run<J: Naming + Send + Sync, R: Threads + Wait + Sync>(
     rt: &R,
     alloc: Global,
-    core: Core<Global>,
-    scripts: Vec<Script<Global>, Global>,
+    begun: Begun,
     publisher: Publisher<J, &R, Global>,
     most: u64,
 ) -> Option<Outcome> {
+    let Begun { core, scripts } = begun;
     let kinds = [Kind::Full, Kind::Partial];
     let sum = Sum::new();
     let keeper = Summing { sum, most };
     match run_kept(rt, alloc, core, scripts, &kinds, publisher, &Open, keeper) {
         Ok((report, keeper)) => outcome_of(report, keeper),
-        Err((NotRun { core, publisher }, _)) => {
+        Err((not_run, keeper)) => {
+            let NotRun { core, publisher } = not_run;
             drop(core);
             drop(publisher);
+            drop(keeper);
             None
         }
     }
@@ -130,14 +152,23 @@ fn run_in_view<J: Naming + Send + Sync, R: Threads + Wait + Sync>(
     rt: &R,
     alloc: Global,
     opened_view: Opened<Global>,
+    begun: Begun,
     most: u64,
 ) -> Result<Option<Outcome>, Fail>
     requires { name_of opened_view ≡ J.book }
 {
-    let scripts = scripts(alloc, &LINES)?;
-    let core = opened(alloc)?;
-    let (publisher, _looker, _seen) = open_view::<J, &R, Global>(alloc, rt, opened_view)?;
-    Ok(run(rt, alloc, core, scripts, publisher, most))
+    match open_view::<J, &R, Global>(alloc, rt, opened_view) {
+        Ok((publisher, looker, seen)) => {
+            let outcome = run(rt, alloc, begun, publisher, most);
+            drop(looker);
+            drop(seen);
+            Ok(outcome)
+        }
+        Err(refused) => {
+            drop(begun);
+            Err(refused.into())
+        }
+    }
 }
 
 const LINES: [&[Line]; 2] = [
@@ -150,7 +181,8 @@ const LINES: [&[Line]; 2] = [
 #[test]
 fn runs_with_a_keeper(rt: HostRuntime) -> Result<(), Fail> {
     for (most, answers) in [(1_000, [3, 3]), (0, [1, 1])] {
-        let ran = run_in_view::<Brand, _>(&rt, rt.alloc(), Opened::new(), most)?;
+        let begun = begun_with(rt.alloc(), &LINES)?;
+        let ran = run_in_view::<Brand, _>(&rt, rt.alloc(), Opened::new(), begun, most)?;
         assert_eq!(rt; ran, Some((true, 2, answers)));
     }
     Ok(())

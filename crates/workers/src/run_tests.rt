@@ -26,7 +26,7 @@ use std::sync::ledger::Blank;
 use std::test::Fail;
 use std::thread;
 use std::thread::Threads;
-use steps::Core;
+use steps::{Arguments, Core};
 use view::{Looker, Naming, Opened, Publisher, Seen, Told, open_view};
 
 pub(crate) const GET: u16 = 0;
@@ -127,6 +127,25 @@ pub(crate) fn scripts(
     Ok(all)
 }
 
+/// What a run begins with.
+#[derive(Drop)]
+pub(crate) struct Begun {
+    pub(crate) core: Core<Global>,
+    pub(crate) scripts: Vec<Script<Global>, Global>,
+}
+
+/// A core over the empty opening, and scripts.
+pub(crate) fn begun_with(alloc: Global, lines: &[&[Line]]) -> Result<Begun, Fail> {
+    let scripts = scripts(alloc, lines)?;
+    match opened(alloc) {
+        Ok(core) => Ok(Begun { core, scripts }),
+        Err(fail) => {
+            drop(scripts);
+            Err(fail)
+        }
+    }
+}
+
 /// How many records are calls of a session, and where its last one stands.
 fn calls_in(records: &[Record<Global>], session: u16) -> (usize, usize) {
     let mut count = 0usize;
@@ -176,10 +195,13 @@ fn shown<J: Naming>(
     key: &Key,
 ) -> Option<u64> {
     let seen = looker.learn(seen, last);
-    match looker.get(seen, key) {
+    let found = looker.get(seen, key);
+    let number = match &found {
         Ok(answer) => Some(answer.number),
         Err(_) => None,
-    }
+    };
+    drop(found);
+    number
 }
 
 fn outcome_of(
@@ -219,6 +241,7 @@ fn told<J: Naming, R: Wait>(
     // The table is open to lookers as long as there is its publisher.
     drop(publisher);
     let outcome = outcome_of(alloc, &core, shares, images.len(), checkpoints);
+    drop(images);
     drop(core);
     (outcome, number)
 }
@@ -227,19 +250,21 @@ fn told<J: Naming, R: Wait>(
 fn ran<J: Naming + Send + Sync, R: Threads + Wait + Sync, G: Gate + Sync>(
     rt: &R,
     alloc: Global,
-    core: Core<Global>,
-    scripts: Vec<Script<Global>, Global>,
+    begun: Begun,
     kinds: &[Kind],
-    view: (Publisher<J, &R, Global>, Looker<J, Global>, Seen<J, Global>),
+    publisher: Publisher<J, &R, Global>,
+    looker: &mut Looker<J, Global>,
+    seen: Seen<J, Global>,
     key: &Key,
     gate: &G,
 ) -> Option<(Outcome, Option<u64>)> {
-    let (publisher, mut looker, seen) = view;
+    let Begun { core, scripts } = begun;
     match run_all(rt, alloc, core, scripts, kinds, publisher, gate) {
-        Ok(report) => Some(told(alloc, report, &mut looker, seen, key)),
+        Ok(report) => Some(told(alloc, report, looker, seen, key)),
         Err(NotRun { core, publisher }) => {
             drop(core);
             drop(publisher);
+            drop(seen);
             None
         }
     }
@@ -249,17 +274,34 @@ fn run_in_view<J: Naming + Send + Sync, R: Threads + Wait + Sync, G: Gate + Sync
     rt: &R,
     alloc: Global,
     opened_view: Opened<Global>,
-    lines: &[&[Line]],
+    begun: Begun,
     kinds: &[Kind],
+    key: &Key,
     gate: &G,
 ) -> Result<Option<(Outcome, Option<u64>)>, Fail>
     requires { name_of opened_view ≡ J.book }
 {
-    let key = Key::new(b"a").ok_or("no key")?;
-    let scripts = scripts(alloc, lines)?;
-    let core = opened(alloc)?;
-    let view = open_view::<J, &R, Global>(alloc, rt, opened_view)?;
-    Ok(ran(rt, alloc, core, scripts, kinds, view, &key, gate))
+    match open_view::<J, &R, Global>(alloc, rt, opened_view) {
+        Ok((publisher, mut looker, seen)) => {
+            let told = ran(
+                rt,
+                alloc,
+                begun,
+                kinds,
+                publisher,
+                &mut looker,
+                seen,
+                key,
+                gate,
+            );
+            drop(looker);
+            Ok(told)
+        }
+        Err(refused) => {
+            drop(begun);
+            Err(refused.into())
+        }
+    }
 }
 
 const TWO_SESSIONS: [&[Line]; 2] = [
@@ -271,12 +313,15 @@ const TWO_SESSIONS: [&[Line]; 2] = [
 #[test]
 fn sessions_beside_checkpoints(rt: HostRuntime) -> Result<(), Fail> {
     let kinds = [Kind::Full, Kind::Partial];
+    let key = Key::new(b"a").ok_or("no key")?;
+    let begun = begun_with(rt.alloc(), &TWO_SESSIONS)?;
     let ran = run_in_view::<Brand, _, _>(
         &rt,
         rt.alloc(),
         Opened::new(),
-        &TWO_SESSIONS,
+        begun,
         &kinds,
+        &key,
         &Open,
     )?;
     let told = ran.map(|(o, number)| (o.checkpoints, o.gathered, o.calls, o.images, number));
@@ -346,6 +391,9 @@ const GATED: [&[Line]; 2] = [
 /// for it: it stands before the cut. No order of one thread passes this gate.
 #[test]
 fn sessions_at_a_gate(rt: HostRuntime) -> Result<(), Fail> {
+    let kinds = [Kind::Full];
+    let key = Key::new(b"a").ok_or("no key")?;
+    let begun = begun_with(rt.alloc(), &GATED)?;
     let gate = Passed {
         steps: AtomicU64::new(0),
         begins: AtomicU64::new(0),
@@ -356,10 +404,13 @@ fn sessions_at_a_gate(rt: HostRuntime) -> Result<(), Fail> {
         &rt,
         rt.alloc(),
         Opened::new(),
-        &GATED,
-        &[Kind::Full],
+        begun,
+        &kinds,
+        &key,
         &gate,
-    )?;
+    );
+    let shut = now(&gate.shut);
+    drop(gate);
     let expected = Outcome {
         checkpoints: Progress::Done,
         gathered: Ok(()),
@@ -367,7 +418,7 @@ fn sessions_at_a_gate(rt: HostRuntime) -> Result<(), Fail> {
         before: true,
         images: 1,
     };
-    assert_eq!(rt; (ran, now(&gate.shut)), (Some((expected, Some(1))), 0));
+    assert_eq!(rt; (ran?, shut), (Some((expected, Some(1))), 0));
     Ok(())
 }
 
@@ -381,7 +432,7 @@ fn two_args(alloc: Global) -> Result<Vec<Vec<u8, Global>, Global>, Fail> {
 
 /// Session 9 begins a call, which reads a key.
 fn hold(alloc: Global, core: &mut Core<Global>) -> Result<(), Fail> {
-    core.begin(9, 1, SWAP, two_args(alloc)?)?;
+    core.begin(9, 1, SWAP, Arguments::of_bytes(two_args(alloc)?))?;
     core.step(9)?;
     Ok(())
 }

@@ -13,7 +13,7 @@ use crate::shares::{Response, Share};
 use procedure::{Call, NoMemory};
 use std::alloc::Allocator;
 use std::sync::Wait;
-use steps::{Answer, BeginError, FinishError, StepError, Stepped};
+use steps::{Answer, Arguments, BeginError, FinishError, StepError, Stepped};
 
 /// A session of a core under its lock, which it takes for each deed alone. Its tally grows by one for each
 /// answer with a place. A call's own session isn't read.
@@ -40,14 +40,14 @@ impl<'a, L: Beginning<K>, A: Allocator + Clone, K: Keeper<A> + Drop, R: Wait, G:
 
     fn begin(&mut self, call: &Call<A>) -> Result<(), BeginError> {
         self.gate.pass(Point::Begin(self.session));
-        match copy_of_args(call.args.allocator(), call.args.as_slice()) {
-            Ok(args) => self
-                .shared
-                .lock
-                .lock(self.rt)
-                .begin(self.session, call.number, call.procedure, args),
-            Err(NoMemory) => Err(BeginError::NoMemory),
-        }
+        let args = match copy_of_args(call.args.allocator(), call.args.as_slice()) {
+            Ok(args) => Arguments::of_values(args),
+            Err(NoMemory) => return Err(BeginError::NoMemory),
+        };
+        self.shared
+            .lock
+            .lock(self.rt)
+            .begin(self.session, call.number, call.procedure, args)
     }
 
     fn step(&mut self) -> Result<Stepped, StepError> {

@@ -1,6 +1,6 @@
 //! A core under a lock, with the count of its calls.
 
-ghost use Rattle.std.specs.Prelude.{◌≡◌, ◌+◌, ◌<◌, ◌≤◌, ◌++◌, ◌∷◌, [], IfOk, IfSome, IsOk, List, MatchResult, Some, drop, length, map};
+ghost use Rattle.std.specs.Prelude.{◌≡◌, ◌+◌, ◌<◌, ◌≤◌, ◌++◌, ◌∷◌, [], IfOk, IfSome, IsOk, List, MatchResult, Some, drop, length};
 ghost use Rattle.commitlog.specs.Records.{Record};
 ghost use Rattle.image.specs.Images.{Image as SpecImage};
 ghost use Rattle.commitlog.specs.Histories.{phase_of};
@@ -20,8 +20,8 @@ use std::marker::Brand;
 use std::sync::Mutex;
 use std::sync::ledger::{Blank, Book, Ledger, Share as Part};
 use steps::{
-    AdvanceError, Answer, BeginError, CaptureError, CaptureToError, Captured, Core, FinishError,
-    NotActive, StartError, StepError, Stepped,
+    AdvanceError, Answer, Arguments, BeginError, CaptureError, CaptureToError, Captured, Core,
+    FinishError, NotActive, StartError, StepError, Stepped,
 };
 
 /// Names what a shared core was opened with, its procedures and its opening, and the ledger of its calls. No
@@ -92,9 +92,9 @@ impl<L: Beginning<K>, K: Keeper<A> + Drop, A: Allocator + Clone> Locked<L, K, A>
         session: u16,
         number: u64,
         procedure: u16,
-        args: Vec<Vec<u8, A>, A>,
+        args: Arguments<A>,
     ) -> Result<(), BeginError>
-        ensures { BeginsAs self.old.held.core self.new.held.core session number procedure (map (λ b. b.items) args.items) result }
+        ensures { BeginsAs self.old.held.core self.new.held.core session number procedure args result }
     {
         self.held.begin(session, number, procedure, args)
     }

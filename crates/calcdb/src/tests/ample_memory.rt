@@ -10,8 +10,8 @@ use replay::recover;
 use std::alloc::Global;
 use std::test::Fail;
 use steps::{
-    AbandonError, AdvanceError, BeginError, CaptureError, Core, Event, FinishError, Handled, Reply,
-    StartError, StepError,
+    AbandonError, AdvanceError, Arguments, BeginError, CaptureError, Core, Event, FinishError,
+    Handled, Reply, StartError, StepError,
 };
 
 /// How often a session is visited, and how many keys there are.
@@ -59,7 +59,7 @@ fn begin(
     } else {
         WRITES[(random.below(4) % 4) as usize]
     };
-    Ok(Event::Begin(session, number, procedure, args))
+    Ok(Event::Begin(session, number, procedure, Arguments::of_bytes(args)))
 }
 
 /// An event of a checkpoint, most often one that may come next. An image may still wait at rest, and then it is
@@ -181,7 +181,8 @@ fn greatest(core: &mut Core<Global>, alloc: Global) -> usize {
     (0..64u16)
         .filter(|session| {
             let _given_up = core.give_up(*session);
-            core.begin(*session, u64::MAX, 7, Vec::new(alloc)).is_ok()
+            core.begin(*session, u64::MAX, 7, Arguments::of_bytes(Vec::new(alloc)))
+                .is_ok()
         })
         .count()
 }

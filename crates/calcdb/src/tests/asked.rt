@@ -42,7 +42,10 @@ pub(crate) fn transcript(
 
 /// What a transcript has after its status of one digit.
 pub(crate) fn behind_status(transcript: &[u8]) -> &[u8] {
-    &transcript[transcript.len().min(2)..]
+    match transcript {
+        [_, _, behind @ ..] => behind,
+        _ => &[],
+    }
 }
 
 /// Words, and what standard input gives to them.

@@ -11,7 +11,7 @@ use record_store::Stable;
 use std::alloc::{Allocator, Global};
 use std::process::Abort;
 use std::test::Fail;
-use steps::{BeginError, Core, OpenError, Versions};
+use steps::{Arguments, BeginError, Core, OpenError, Versions};
 
 /// How many slots, records and procedures a core has, and the number and the entries of its opening.
 fn sizes_of(core: &Core<Global>) -> (usize, usize, usize, u64, usize) {
@@ -93,6 +93,7 @@ fn began(
     for length in lengths {
         args.push(vec![in alloc; b'a'; *length]?)?;
     }
+    let args = Arguments::of_bytes(args);
     Ok(core.begin(session, number, procedure, args).err())
 }
 

@@ -7,7 +7,7 @@ use replay::recover;
 use sha2::{Digest, Sha256};
 use std::alloc::Global;
 use std::test::Fail;
-use steps::Core;
+use steps::{Arguments, Core};
 
 /// A core of one procedure, set(key, value), with an empty table to begin with, and the header of its log.
 fn open_core(alloc: Global) -> Result<(Core<Global>, LogHeader), Fail> {
@@ -26,13 +26,13 @@ fn open_core(alloc: Global) -> Result<(Core<Global>, LogHeader), Fail> {
 /// The image of a full checkpoint. Session 0 commits before its cut, session 1 after it.
 fn checkpoint(alloc: Global, core: &mut Core<Global>) -> Result<Image<Global>, Fail> {
     let one = vec![in alloc; b"a".to_vec(alloc)?, b"one".to_vec(alloc)?]?;
-    core.begin(0, 1, 0, one)?;
+    core.begin(0, 1, 0, Arguments::of_bytes(one))?;
     core.step(0)?;
     core.finish(0)?;
     core.start(Kind::Full)?;
     core.advance()?; // into resolve: the cut is here
     let two = vec![in alloc; b"a".to_vec(alloc)?, b"two".to_vec(alloc)?]?;
-    core.begin(1, 1, 0, two)?;
+    core.begin(1, 1, 0, Arguments::of_bytes(two))?;
     core.advance()?; // into capture
     core.step(1)?;
     for _ in 0..core.slots() {

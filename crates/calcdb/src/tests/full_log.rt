@@ -8,7 +8,7 @@ use procedure::{Key, Value};
 use replay::recover;
 use std::alloc::Global;
 use std::test::Fail;
-use steps::{Core, FinishError, Renewed, StartError};
+use steps::{Arguments, Core, FinishError, Renewed, StartError};
 
 /// The number of the procedure `set`.
 const SET: u16 = 4;
@@ -48,7 +48,7 @@ fn checkpoints(core: &mut Core<Global>) -> u32 {
 /// Begins a call that writes its number, and carries out its one step.
 fn ready(core: &mut Core<Global>, alloc: Global, number: u64) -> Option<()> {
     let args = key_and_value(alloc, 0, &number.to_be_bytes()).ok()?;
-    core.begin(0, number, SET, args).ok()?;
+    core.begin(0, number, SET, Arguments::of_bytes(args)).ok()?;
     core.step(0).ok()?;
     Some(())
 }

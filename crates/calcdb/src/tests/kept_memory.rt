@@ -7,7 +7,7 @@ use crate::tests::fixtures::opened;
 use image::{Image, Kind, seal};
 use linked_list_allocator::LocalHeap;
 use std::test::Fail;
-use steps::Core;
+use steps::{Arguments, Core};
 
 /// The bytes of the heap in which a test runs.
 const HEAP: usize = 8_388_608;
@@ -54,7 +54,7 @@ fn begun<'a>(
     if procedure == GET {
         args.truncate(1);
     }
-    core.begin(0, number, procedure, args)?;
+    core.begin(0, number, procedure, Arguments::of_bytes(args))?;
     core.step(0)?;
     Ok(())
 }
@@ -184,7 +184,7 @@ fn answer_calls<'a>(
     behind: u64,
 ) -> Result<usize, Fail> {
     for number in first..behind {
-        core.begin(0, number, NOTHING, Vec::new(heap))?;
+        core.begin(0, number, NOTHING, Arguments::of_bytes(Vec::new(heap)))?;
         drop(core.finish(0)?);
     }
     Ok(heap.used())

@@ -7,7 +7,7 @@ use std::alloc::Global;
 use std::fmt::Write;
 use std::process::Abort;
 use std::test::Fail;
-use steps::Core;
+use steps::{Arguments, Core};
 
 /// A table of 100,000 keys takes no other, and the calls that need none go on.
 const AT_THE_END: (&str, &str) = (
@@ -131,7 +131,8 @@ fn swapped(
     key: u32,
 ) -> Option<usize> {
     let args = key_and_value(alloc, key, &number.to_be_bytes()).ok()?;
-    core.begin(session, number, SWAP, args).ok()?;
+    core.begin(session, number, SWAP, Arguments::of_bytes(args))
+        .ok()?;
     core.step(session).ok()?;
     core.step(session).ok()?;
     Some(core.finish(session).ok()?.place)

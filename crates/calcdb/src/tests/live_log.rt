@@ -8,7 +8,7 @@ use sha2::{Digest, Sha256};
 use std::alloc::Global;
 use std::io::Write;
 use std::test::Fail;
-use steps::Core;
+use steps::{Arguments, Core};
 
 /// A core of one procedure, set(key, value), with an empty table, and the header of its log.
 fn open_core(alloc: Global) -> Result<(Core<Global>, LogHeader), Fail> {
@@ -33,7 +33,7 @@ fn call<W: Write + Drop>(
 ) -> Result<(), Fail> {
     let known = core.records().len();
     let args = vec![in alloc; b"a".to_vec(alloc)?, b"b".to_vec(alloc)?]?;
-    core.begin(0, number, 0, args)?;
+    core.begin(0, number, 0, Arguments::of_bytes(args))?;
     core.step(0)?;
     core.finish(0)?;
     for record in core.records().iter().skip(known) {

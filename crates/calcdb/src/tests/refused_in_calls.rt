@@ -2,7 +2,7 @@
 //! then answered as with ample memory. The calls that take no memory are answered so with every growth
 //! refused.
 
-use crate::commands::{Arguments, Command};
+use crate::commands::Command;
 use crate::run::{carry_out, push_shown};
 use crate::scripts::{Script, read_schedule};
 use crate::tests::checkpoints::CHECKPOINTS;
@@ -15,7 +15,7 @@ use procedure::NoMemory;
 use std::alloc::{Allocator, Global};
 use std::process::Abort;
 use std::test::Fail;
-use steps::{Core, OpenError};
+use steps::{Arguments, Core, OpenError};
 
 /// The commands that take no memory.
 const TAKE_NONE: [&str; 3] = ["giveup", "image", "reclaim"];

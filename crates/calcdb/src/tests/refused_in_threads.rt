@@ -164,7 +164,7 @@ impl Counts {
 
     /// Whether some weren't begun, most were, and nothing is wrong.
     fn are_right(self) -> bool {
-        self.not_begun > 0 && self.begun > 100 && self.wrong == 0
+        self.not_begun > 0 && self.begun > 50 && self.wrong == 0
     }
 }
 

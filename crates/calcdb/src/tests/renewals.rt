@@ -1,7 +1,7 @@
 //! Renewals of a core: the opening of the new one after each command of the old one, or how it is refused;
 //! and each growth refused in turn.
 
-use crate::commands::{Arguments, Command};
+use crate::commands::Command;
 use crate::output::{push_image, push_refusal};
 use crate::run::carry_out;
 use crate::scripts::{Script, read_schedule};
@@ -16,7 +16,7 @@ use sha2::{Digest, Sha256};
 use std::alloc::{Allocator, Global};
 use std::process::Abort;
 use std::test::Fail;
-use steps::{Core, RenewError, Renewed};
+use steps::{Arguments, Core, RenewError, Renewed};
 
 /// Commands, and how a renewal after each is answered: the opening of the new core, or the refusal.
 const RENEWALS: &str = "\
@@ -88,7 +88,10 @@ fn log_left<A: Allocator + Copy>(alloc: A, renewed: &Renewed<A>) -> Result<Seque
 
 /// Whether a call with the least number is the first of the log.
 fn answers_first<A: Allocator + Copy>(alloc: A, core: &mut Core<A>) -> bool {
-    if core.begin(0, 0, NOTHING, Vec::new(alloc)).is_err() {
+    if core
+        .begin(0, 0, NOTHING, Arguments::of_bytes(Vec::new(alloc)))
+        .is_err()
+    {
         return false;
     }
     match core.finish(0) {

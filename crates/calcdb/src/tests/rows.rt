@@ -1,7 +1,7 @@
 //! Scripts for tests, as tables of commands and of what they write, and how a row is run; and numbers and
 //! texts of other tables.
 
-use crate::commands::{Arguments, Command, NewCall};
+use crate::commands::{Command, NewCall};
 use crate::engine::RanWithImages;
 use crate::run::{Shown, push_shown};
 use crate::scripts::{Schedule, Script, read_schedule};
@@ -11,7 +11,7 @@ use image::Image;
 use std::alloc::Global;
 use std::process::Abort;
 use std::test::Fail;
-use steps::{Event, Reply, Run, drive};
+use steps::{Arguments, Event, Reply, Run, drive};
 
 /// A command, and what it writes.
 #[derive(Drop)]
@@ -175,7 +175,7 @@ fn event_of(command: Command<Arguments<Global>>) -> Option<Event<Global>> {
                 procedure,
                 args,
             } = call;
-            Some(Event::Begin(session, number, procedure, args.into_values()))
+            Some(Event::Begin(session, number, procedure, args))
         }
         Command::Step(session) => Some(Event::Step(session)),
         Command::Finish(session) => Some(Event::Finish(session)),

@@ -265,10 +265,10 @@ fn value_read(alloc: Global, word: &str) -> Result<String<Global>, Fail> {
     Ok(String::from_utf8(out).map_err(|_| "no text")?)
 }
 
-/// The words of a line.
+/// The words of a line, which stand between single spaces.
 pub(crate) fn words_of(alloc: Global, line: &str) -> Result<Vec<&str, Global>, Fail> {
     let mut words = Vec::new(alloc);
-    for word in line.split_whitespace() {
+    for word in line.split(' ') {
         words.push(word)?;
     }
     Ok(words)

@@ -1,5 +1,5 @@
 -- What a schedule's answers say of the log.
-use Rattle.std.proofs.Common.{◌≡◌, ◌+◌, arith, cond, count_by, option_to_list, ℕ, zero, suc, Bool, true, false, is_some, IfSome, List, [], ◌∷◌, ◌++◌, length, map, Option, Some, None, Vec}
+use Rattle.std.proofs.Common.{◌≡◌, ◌+◌, arith, cond, count_by, option_to_list, ℕ, zero, suc, Bool, true, false, is_some, IfSome, List, [], ◌∷◌, ◌++◌, length, map, Option, Some, None}
 use Rattle.std.proofs.Common.{Ok, Err, is_ok, IsSome, option_map, replicate, slice_get, slice_set, slice_index_or, refl, sym, ap, ◌∙◌, subst}
 use Rattle.std.specs.declared.result.Result.{Result}
 use Rattle.std.proofs.lemmas.List.{append-nil, append_assoc, length-append, map-append, map-set, set-get_or}
@@ -237,15 +237,15 @@ grown old new l is g x =
     (subst (λ (o : Image). AllTaken old.catalog (table_of o) new.log is) (sym g.opening)
     (subst (λ h. AllTaken old.catalog (table_of old.opening) h is) (sym g.log) (all_taken-grows old.catalog (table_of old.opening) old.log g.more is x)))
 
-module _ {A : Type 0} where
-  begin_handled :
-      (s n p : ℕ) (args : Vec (Vec ℕ A) A) (old new : CoreView) (r : Result (Unit {0}) _) → BeginsAs old new s n p (map (λ b. b.items) args.items) r →
-      Grows old new (begun_by {A = A} (event.Begin s n p args) (is_ok r) (begun_in old)) []
-  begin_handled s n p args old new (Ok x) h =
-      stays old new (begun_by {A = A} (event.Begin s n p args) true (begun_in old)) (ap (λ (v : CoreView). v.catalog) h.begun) (ap (λ (v : CoreView). v.opening) h.begun)
-      (ap (λ (v : CoreView). v.log) h.begun) (ap begun_in h.begun ∙ map-set (option_map begun_of) old.calls s _)
-  begin_handled s n p args old new (Err x) h = same old new h.refused
+begin_handled :
+    (A : Type 0) (s n p : ℕ) (args : List Bytes) (old new : CoreView) (r : Result (Unit {0}) _) → BeginsAs old new s n p args r →
+    Grows old new (begun_by {A = A} (event.Begin s n p args) (is_ok r) (begun_in old)) []
+begin_handled A s n p args old new (Ok x) h =
+    stays old new (begun_by {A = A} (event.Begin s n p args) true (begun_in old)) (ap (λ (v : CoreView). v.catalog) h.begun) (ap (λ (v : CoreView). v.opening) h.begun)
+    (ap (λ (v : CoreView). v.log) h.begun) (ap begun_in h.begun ∙ map-set (option_map begun_of) old.calls s _)
+begin_handled A s n p args old new (Err x) h = same old new h.refused
 
+module _ {A : Type 0} where
   answered_log :
       (s : ℕ) (old new : CoreView) (c : Underway) (a : Answer A) → Finishes old new s c → AnswersCall old c a.place a.outcome a.replies →
       new.log ≡ old.log ++ Call s c.number c.procedure c.args a.outcome a.replies ∷ []
@@ -274,7 +274,7 @@ module _ {A : Type 0} where
 
   handled : (e : Event A) (old new : CoreView) (r : Handled A) → Handles e old new r → Grows old new (begun_by e (is_accepted r.reply) (begun_in old)) (answer_to e r.reply (begun_in old))
   handled (event.Begin s n p args) old new r h =
-      subst (λ (x : Handled A). Grows old new (begun_by {A = A} (event.Begin s n p args) (is_accepted x.reply) (begun_in old)) []) (sym h.1) (begin_handled s n p args old new h.0 h.2)
+      subst (λ (x : Handled A). Grows old new (begun_by {A = A} (event.Begin s n p args) (is_accepted x.reply) (begun_in old)) []) (sym h.1) (begin_handled A s n p args old new h.0 h.2)
   handled (event.Step s) old new r h = subst (λ (x : Handled A). Grows old new (begun_by {A = A} (event.Step s) (is_accepted x.reply) (begun_in old)) []) (sym h.1) (step_handled A s old new h.0 h.2)
   handled (event.Finish s) old new r h =
       subst (λ (x : Handled A). Grows old new (begun_by {A = A} (event.Finish s) (is_accepted x.reply) (begun_in old)) (answer_to (event.Finish s) x.reply (begun_in old))) (sym h.1)

@@ -1,7 +1,7 @@
-use Rattle.std.proofs.Common.{◌≡◌, drop}
+use Rattle.std.proofs.Common.{◌≡◌, ◌&&◌, drop}
 use Rattle.calcdb.specs.Lines.{all_pass, is_allowed}
 use Rattle.calcdb.proofs.lines.is_allowed.Given as goal
 
--- the bytes that are left decide
+-- the bytes so far and those that are left decide
 abbrev pub invariant-loop-byte : goal.invariant-loop-byte
-invariant-loop-byte l = all_pass is_allowed (drop l.byte-index l.line) ≡ all_pass is_allowed l.line
+invariant-loop-byte l = (l.all && all_pass is_allowed (drop l.byte-index l.line)) ≡ all_pass is_allowed l.line

@@ -1,4 +1,4 @@
-use Rattle.std.proofs.Common.{List, [], map, refl, subst, sym}
+use Rattle.std.proofs.Common.{List, [], refl, subst, sym}
 use Rattle.procedure.specs.Bytes.{Bytes}
 use Rattle.steps.specs.Schedules.{AbandonsAs, AdvancesAs, BeginsAs, FinishesAs, GivesUpAs, ReclaimsAs, StartsAs, StepsAs, VisitsAs, without_image}
 use Rattle.steps.specs.declared.schedules.Event.TheVariants as event
@@ -87,8 +87,7 @@ returns-in-Begin g c =
     let old = c.args.core.now in
     let new = c.begin-begun.new.self in
     let r = c.begin-begun.result in
-    let args = map (λ v. v.items) c.into_values.result.items in
-    let h : BeginsAs old new n.session n.number n.procedure args r = record { begun = e.begun; refused = e.refused; refusal = e.refusal } in
-    let v = event.Begin n.session n.number n.procedure c.into_values.result in
+    let h : BeginsAs old new n.session n.number n.procedure n.args r = record { begun = e.begun; refused = e.refused; refusal = e.refusal } in
+    let v = event.Begin n.session n.number n.procedure n.args in
     subst (λ (x : Command (List Bytes)). Carried {A = g.row.A.Denot} (Carries old.catalog x) old new (reply_text {A = g.row.A.Denot} (reply.Begin r)) []) (sym c.in-Begin.is)
-    (one_begin old.catalog n v old new (reply_text {A = g.row.A.Denot} (reply.Begin r)) [] (refl, refl, refl, c.into_values.ensures) (one v old new (without_image (reply.Begin r)) (r, refl, h)))
+    (one_begin old.catalog n v old new (reply_text {A = g.row.A.Denot} (reply.Begin r)) [] (refl, refl, refl, refl) (one v old new (without_image (reply.Begin r)) (r, refl, h)))

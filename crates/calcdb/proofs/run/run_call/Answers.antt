@@ -8,13 +8,13 @@ pub returns-in-Ok : goal.returns-in-Ok
 returns-in-Ok g c =
     let n = c.args.call in
     let h = c.begin.ensures in
-    call_begun c.args.core.now.catalog n (event.Begin n.session n.number n.procedure c.into_values.result) c.args.core.now c.begin.new.self c.go_on.new.core c.begin.result c.count_of-count.result
+    call_begun c.args.core.now.catalog n (event.Begin n.session n.number n.procedure n.args) c.args.core.now c.begin.new.self c.go_on.new.core c.begin.result c.count_of-count.result
     (reply_text c.go_on.result) []
-    (refl, refl, refl, c.into_values.ensures) (c.begin.result, refl, record { begun = h.begun; refused = h.refused; refusal = h.refusal }) c.in-Ok.is c.count_of-count.ensures c.go_on.ensures
+    (refl, refl, refl, refl) (c.begin.result, refl, record { begun = h.begun; refused = h.refused; refusal = h.refusal }) c.in-Ok.is c.count_of-count.ensures c.go_on.ensures
 
 pub returns-in-Err : goal.returns-in-Err
 returns-in-Err g c =
     let n = c.args.call in
     let h = c.begin.ensures in
-    call_refused c.args.core.now.catalog n (event.Begin n.session n.number n.procedure c.into_values.result) c.args.core.now c.begin.new.self c.begin.result c.in-Err.refused
-    (refl, refl, refl, c.into_values.ensures) (c.begin.result, refl, record { begun = h.begun; refused = h.refused; refusal = h.refusal }) c.in-Err.is
+    call_refused c.args.core.now.catalog n (event.Begin n.session n.number n.procedure n.args) c.args.core.now c.begin.new.self c.begin.result c.in-Err.refused
+    (refl, refl, refl, refl) (c.begin.result, refl, record { begun = h.begun; refused = h.refused; refusal = h.refusal }) c.in-Err.is

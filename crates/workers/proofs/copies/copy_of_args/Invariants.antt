@@ -1,8 +1,8 @@
-use Rattle.std.proofs.Common.{◌≡◌, ◌≤◌, length, map, take, vec_capacity}
+use Rattle.std.proofs.Common.{◌≡◌, ◌≤◌, length, take, vec_capacity}
 use Rattle.workers.proofs.copies.copy_of_args.Given as goal
 
 abbrev pub invariant-loop-arg : goal.invariant-loop-arg
 invariant-loop-arg g l = record {
-  copied : map (λ b. b.items) l.copy.items ≡ take l.arg-index l.args;
+  copied : l.copy.items ≡ take l.arg-index l.args;
   room : length l.args ≤ vec_capacity l.copy;
 }

@@ -1,5 +1,6 @@
-use Rattle.std.proofs.Common.{◌≡◌, ℕ, ◌+◌, ◌<◌, ◌≤◌, List, [], ◌∷◌, ◌++◌, length, take, get_or, ap, sym, subst, ◌∙◌, arith}
-use Rattle.std.proofs.lemmas.List.{take_all, take_more, length-take-le}
+use Rattle.std.proofs.Common.{◌≤◌, length, sym, subst, ◌∙◌}
+use Rattle.std.proofs.lemmas.List.{take_all}
+use Rattle.workers.proofs.CopiedItems.{copied_more, room_left}
 use Rattle.workers.proofs.copies.copy_of_entries.Goals as goal
 
 pub returns : goal.returns
@@ -8,18 +9,10 @@ returns g c = c.loop-entry.invariant.copied ∙ take_all _ c.args.entries.now c.
 pub loop-entry-init : goal.loop-entry-init
 loop-entry-init g c = record { copied = c.in_ok-copy.ensures.items; room = c.in_ok-copy.ensures.capacity }
 
-room_left : {X : Type 0} (xs items : List X) (i len most : ℕ) → len ≡ length items → items ≡ take i xs → i < length xs → length xs ≤ most → len < most
-room_left xs items i len most e same below room = omega (arith, ap length same, length-take-le i xs)
-
 pub push_reserved-requires : goal.push_reserved-requires
 push_reserved-requires g c =
     let before = c.loop-entry in
     room_left c.args.entries.now before.copy.items before.entry-index _ _ before.copy.ok.0 before.invariant.copied c.loop-entry-test.true before.invariant.room
-
-copied_more : {X : Type 0} (xs before after : List X) (i : ℕ) (x y : X) → i < length xs → before ≡ take i xs → after ≡ before ++ x ∷ [] → x ≡ y → y ≡ get_or xs i y → after ≡ take (i + 1) xs
-copied_more xs before after i x y below so_far pushed same here =
-    let more = take_more xs i y below in
-    cc
 
 pub loop-entry-preserved : goal.loop-entry-preserved
 loop-entry-preserved g c =

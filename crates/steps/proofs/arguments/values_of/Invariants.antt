@@ -1,7 +1,7 @@
 use Rattle.std.proofs.Common.{◌≡◌, ◌++◌, ◌≤◌, ◌+◌, map, length, vec_capacity}
 use Rattle.std.specs.Vec.Iter.{into_iter_items}
 use Rattle.steps.specs.Refusals.{all_fit}
-use Rattle.steps.proofs.begin.values_of.Given as goal
+use Rattle.steps.proofs.arguments.values_of.Given as goal
 
 -- the values so far, and the arguments that are left
 abbrev pub invariant-loop-bytes : goal.invariant-loop-bytes

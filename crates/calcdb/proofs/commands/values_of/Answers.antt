@@ -5,7 +5,7 @@ use Rattle.calcdb.specs.Values.{held_value_of}
 use Rattle.calcdb.specs.Commands.{values_by}
 use Rattle.calcdb.proofs.Readers.{behind, handed_on}
 use Rattle.calcdb.proofs.WordValues.{all_values, no_value, value_kept}
-use Rattle.calcdb.proofs.thread_commands.values_of.Goals as goal
+use Rattle.calcdb.proofs.commands.values_of.Goals as goal
 
 pub returns-in_err-held_of : goal.returns-in_err-held_of
 returns-in_err-held_of g c =
