@@ -13,7 +13,7 @@ echo "tour.sh: as expected"
 for shown in README.md=1=embedding docs/EMBEDDING.md=1=service docs/EMBEDDING.md=2=live_log docs/EMBEDDING.md=3=next_cores; do
     IFS='=' read -r page place test <<< "$shown"
     diff <(awk -v place="$place" '/^```rust$/ { inside = ++count == place; next } /^```$/ { inside = 0 } inside' "../$page") \
-        <(tail -n +3 "../crates/calcdb/src/tests/$test.rt")
+        <(tail -n +3 "../tests/src/$test.rt.txt")
     echo "$page: shows the test $test as it is"
 done
 ./threads.sh

@@ -43,8 +43,6 @@ mod scripts;
 mod show;
 mod sinks;
 mod tasks;
-#[cfg(test)]
-mod tests;
 mod thread_commands;
 mod thread_journals;
 mod thread_output;
