@@ -22,6 +22,8 @@ pub mod keepers;
 pub mod laws;
 mod publishing;
 #[cfg(test)]
+mod resolve_tests;
+#[cfg(test)]
 mod run_tests;
 pub mod runs;
 pub mod sessions;
