@@ -1,5 +1,5 @@
-//! A checkpoint's steps to its cut copy no table and run no call again: they succeed where there is less memory
-//! than a copy of the table takes.
+//! A checkpoint's steps to its cut copy no table: they succeed where there is less memory than a copy of the
+//! table takes.
 
 use image::{Entry, Image, Kind};
 use linked_list_allocator::LocalHeap;
