@@ -135,7 +135,8 @@ class Program:
         """The status, and the lines of both outputs."""
         ran = self.run(words, piped)
         outputs = [(b"out ", ran.stdout), (b"err ", ran.stderr)]
-        return b"%d\n" % ran.returncode + b"".join(name + line for name, text in outputs for line in text.splitlines(True))
+        lines = [name + line for name, text in outputs for line in text.splitlines(True)]
+        return b"%d\n" % ran.returncode + b"".join(lines)
 
     def size(self, name):
         path = self.folder / name
@@ -270,14 +271,16 @@ def check_large_table(program):
         (program.folder / name).write_text("\n".join(lines))
     (program.folder / "large").mkdir()
 
-    def ask(line, last, status=0):
+    def ask(line, last, err=""):
         ran = program.run(line.split())
-        program.expect(line, (ran.returncode, ran.stdout.decode().splitlines()[-1:]), (status, [last]))
+        found = (ran.returncode, ran.stdout.decode().splitlines()[-1:], ran.stderr.decode())
+        program.expect(line, found, (1 if err else 0, [last], err))
 
     def same(name, wanted):
         program.expect(name, formats.digest((program.folder / name).read_bytes()), formats.digest(wanted))
 
-    ask("load many image", f"fault line {MOST_KEYS + 1}", 1)
+    line = f"line {MOST_KEYS + 1}"
+    ask("load many image", f"fault {line}", f"calcdb: many {line}: over {MOST_KEYS} pairs\n")
     ask("load pairs image", f"image full 0 base 0 place 0 count {MOST_KEYS}")
     same("image", image_of(values))
     ask("run script --open image --out large", f"'{max(keys).decode()} #{values[max(keys)]}")
