@@ -11,7 +11,7 @@ for, `starved` is passed over; `scarce`, `bytewise`, `timeless`, `cramped` and `
 Lines of `--progress` depend on the time and aren't compared. Images and logs are made by `formats.py`. Besides, a
 table of as many keys as there may be is loaded, captured beside calls and recovered.
 
-It prints how many lines were run, and ends with status 1 at the first one that comes to something else.
+It prints how many things were compared, and ends with status 1 at the first one that comes to something else.
 """
 
 import argparse
@@ -159,7 +159,7 @@ class Program:
         elif verb == "scarce":
             self.run(words, piped)
         elif verb in ("cramped", "unsaved"):
-            self.run(words, piped)
+            self.expect(line, self.run(words, piped).returncode, 0)
             for name, size in (it.split() for it in wanted.splitlines()):
                 self.expect(line, self.size(name), size)
         elif verb != "starved":
@@ -219,7 +219,7 @@ class Program:
         script = constant("fixtures", "PROCEDURES") + "proc nothing 0\nend\n" + "\n".join(it[0] for it in commands)
         (self.folder / "script").write_bytes(script.encode())
         (self.folder / "pairs").write_bytes(pairs.encode())
-        self.run(["load", "pairs", "opening"])
+        self.expect(pairs, self.run(["load", "pairs", "opening"]).returncode, 0)
         ran = self.run(["run", "script", "--open", "opening"])
         answers = "".join(it[1] for it in commands).encode()
         self.expect(script, (ran.returncode, ran.stdout, ran.stderr), (0, answers, b""))
@@ -239,7 +239,7 @@ class Program:
         if wanted.startswith("fault"):
             return self.check_text(["load", "text", "image"], text, wanted)
         (self.folder / "text").write_bytes(text.replace("|", "\n").encode())
-        self.run(["load", "text", "image"])
+        self.expect(text, self.run(["load", "text", "image"]).returncode, 0)
         self.expect(text, self.run(["show", "image"]).stdout.decode(), lines_of(wanted))
 
 
@@ -323,7 +323,7 @@ def main():
     with tempfile.TemporaryDirectory() as folder:
         program = Program(path, folder)
         check_all(program)
-        print(f"{program.count} lines came to what they should")
+        print(f"{program.count} comparisons: as expected")
 
 
 if __name__ == "__main__":
