@@ -1,5 +1,5 @@
 -- Lines of commands.
-use Rattle.std.specs.Prelude.{ℕ, ◌-◌, ◌^◌, Bool, ◌&&◌, ◌||◌, if◌then◌else◌, nat_le, codes, List, [], ◌∷◌, length, slice_index_or, Option, Some, None}
+use Rattle.std.specs.Prelude.{ℕ, ◌-◌, ◌^◌, Bool, true, false, ◌&&◌, ◌||◌, if◌then◌else◌, nat_le, codes, List, [], ◌∷◌, length, slice_index_or, Option, Some, None}
 use Rattle.std.specs.FinMap as map
 use Rattle.image.specs.declared.images.Kind.{Kind}
 use Rattle.image.specs.declared.images.Kind.TheVariants.{Full, Partial}
@@ -105,6 +105,27 @@ command_name w =
     else if is_word w (codes "reclaim") then Some named.Reclaim
     else if is_word w (codes "abandon") then Some named.Abandon
     else None
+
+-- no word stands behind the name of such a command
+abbrev pub stands_alone : CommandName → Bool
+stands_alone c =
+    elim c [
+      | named.Begin ↦ false
+      | named.Step ↦ false
+      | named.Finish ↦ false
+      | named.GiveUp ↦ false
+      | named.Call ↦ false
+      | named.Start ↦ false
+      | named.Advance ↦ true
+      | named.Capture ↦ true
+      | named.Scan ↦ true
+      | named.TakeImage ↦ true
+      | named.Reclaim ↦ true
+      | named.Abandon ↦ true
+    ]
+
+abbrev pub end_after : CommandName → List Bytes → Option (Unit {0})
+end_after c ws = if stands_alone c then no_word ws else Some tt
 
 abbrev pub command_at : List Bytes → Option (CommandName × List Bytes)
 command_at ws = do

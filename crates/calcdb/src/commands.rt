@@ -19,10 +19,10 @@ use steps::Arguments;
 /// The call that a command begins.
 #[derive(Drop)]
 pub(crate) struct NewCall<V> {
-    pub session: u16,
     pub number: u64,
-    pub procedure: u16,
     pub args: V,
+    pub session: u16,
+    pub procedure: u16,
 }
 
 /// A command. Its arguments are `Arguments<A>` in the program, and lists of byte strings in the
@@ -99,6 +99,7 @@ pub(crate) fn is_name(word: &[u8]) -> bool
 }
 
 /// The number of the procedure with this name.
+#[inline(always)]
 pub(crate) fn number_of_name<A: Allocator>(names: &Names<A>, word: &[u8]) -> Option<u16>
     ensures { result ≡ spec.procedure_of names.now word.now }
 {
@@ -156,6 +157,7 @@ pub(crate) fn procedure_at<'a, A: Allocator>(
 }
 
 /// The values that the words of a line are, where none is too long for one.
+#[inline(always)]
 pub(crate) fn values_of<A: Allocator + Clone>(
     alloc: A,
     line: &[u8],
@@ -186,6 +188,7 @@ fn bytes_of<A: Allocator + Clone>(alloc: A, line: &[u8]) -> Result<Vec<Vec<u8, A
 
 /// The arguments that the words of a line are. Where one is too long for a value, or is none, the line is
 /// read again for that.
+#[inline(always)]
 fn arguments_of<A: Allocator + Clone>(alloc: A, line: &[u8]) -> Result<Arguments<A>, Unread>
     ensures { ReadsAs (λ a. a) result (spec.values_by value_of (words line.now)) }
 {
@@ -250,15 +253,30 @@ pub(crate) fn kind_of(line: &[u8]) -> Result<Kind, Misread>
     Ok(kind)
 }
 
-/// A command without a word after its name.
-fn alone<A: Allocator>(
-    command: Command<Arguments<A>>,
-    line: &[u8],
-) -> Result<Command<Arguments<A>>, Misread>
-    ensures { ReadsExactly (λ c. c) result (spec.without_arguments command (words line.now)) }
+/// Whether a command has no word after its name.
+fn stands_alone(name: CommandName) -> bool
+    ensures { result ≡ spec.stands_alone name }
 {
-    end_of(line)?;
-    Ok(command)
+    matches!(
+        name,
+        CommandName::Advance
+            | CommandName::Capture
+            | CommandName::Scan
+            | CommandName::TakeImage
+            | CommandName::Reclaim
+            | CommandName::Abandon
+    )
+}
+
+/// Nothing, where no word is left after the name of a command that has none.
+fn end_after(name: CommandName, line: &[u8]) -> Result<(), Misread>
+    ensures { ReadsExactly (λ p. p) result (spec.end_after name (words line.now)) }
+{
+    if stands_alone(name) {
+        end_of(line)
+    } else {
+        Ok(())
+    }
 }
 
 fn command_name(word: &[u8]) -> Result<CommandName, Misread>
@@ -303,19 +321,21 @@ fn command_of<A: Allocator + Clone>(
 ) -> Result<Command<Arguments<A>>, Unread>
     ensures { ReadsAs (λ c. c) result (spec.command_of names.now (word.now ∷ words rest.now)) }
 {
-    match command_name(word)? {
+    let name = command_name(word)?;
+    end_after(name, rest)?;
+    match name {
         CommandName::Begin => Ok(Command::Begin(call_of(alloc, names, rest)?)),
         CommandName::Step => Ok(Command::Step(session_of(rest)?)),
         CommandName::Finish => Ok(Command::Finish(session_of(rest)?)),
         CommandName::GiveUp => Ok(Command::GiveUp(session_of(rest)?)),
         CommandName::Call => Ok(Command::Call(call_of(alloc, names, rest)?)),
         CommandName::Start => Ok(Command::Start(kind_of(rest)?)),
-        CommandName::Advance => Ok(alone(Command::Advance, rest)?),
-        CommandName::Capture => Ok(alone(Command::Capture, rest)?),
-        CommandName::Scan => Ok(alone(Command::Scan, rest)?),
-        CommandName::TakeImage => Ok(alone(Command::TakeImage, rest)?),
-        CommandName::Reclaim => Ok(alone(Command::Reclaim, rest)?),
-        CommandName::Abandon => Ok(alone(Command::Abandon, rest)?),
+        CommandName::Advance => Ok(Command::Advance),
+        CommandName::Capture => Ok(Command::Capture),
+        CommandName::Scan => Ok(Command::Scan),
+        CommandName::TakeImage => Ok(Command::TakeImage),
+        CommandName::Reclaim => Ok(Command::Reclaim),
+        CommandName::Abandon => Ok(Command::Abandon),
     }
 }
 

@@ -24,10 +24,18 @@ fn line_end(text: &[u8]) -> Option<usize>
 fn word_end(line: &[u8]) -> Option<usize>
     ensures { result ≡ position spec.is_blank line.now }
 {
-    line.iter().position(|byte| is_blank(*byte))
+    let mut at = 0;
+    while at < line.len() {
+        if is_blank(line[at]) {
+            return Some(at);
+        }
+        at += 1;
+    }
+    None
 }
 
 /// The first line of a text, and what stands after its line feed, if it has one.
+#[inline(always)]
 pub(crate) fn line_at(text: &[u8]) -> (&[u8], Option<&[u8]>)
     ensures pieces { pieces spec.is_line_feed text.now ≡ result.0.now ∷ left_pieces spec.is_line_feed (option_map (λ r. r.now) result.1) }
     ensures shorter { IfSome result.1 (λ r. length r.now < length text.now) }

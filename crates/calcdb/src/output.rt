@@ -27,6 +27,7 @@ fn is_graphic(bytes: &[u8]) -> bool
 }
 
 /// A text, after what is there.
+#[inline(always)]
 pub(crate) fn push_text<A: Allocator>(out: &mut Vec<u8, A>, text: &[u8]) -> Result<(), NoMemory>
     ensures { OnOk result (out.new.items ≡ out.old.items ++ text.now) }
 {
@@ -35,6 +36,7 @@ pub(crate) fn push_text<A: Allocator>(out: &mut Vec<u8, A>, text: &[u8]) -> Resu
 }
 
 /// A number's decimal digits, without zeros in front.
+#[inline(always)]
 pub(crate) fn push_decimal<A: Allocator>(out: &mut Vec<u8, A>, number: u64) -> Result<(), NoMemory>
     ensures { OnOk result (out.new.items ≡ out.old.items ++ decimal number) }
 {
@@ -53,6 +55,7 @@ fn push_hex<A: Allocator + Clone>(out: &mut Vec<u8, A>, bytes: &[u8]) -> Result<
 /// A value: `#` and a number, of 8 bytes; else `'` and the bytes, where each has a sign; else `x` and
 /// hexadecimal digits.
 #[tactic(auto, unfolding(crate::specs::Output::value_text))]
+#[inline(always)]
 pub(crate) fn push_value<A: Allocator + Clone>(
     out: &mut Vec<u8, A>,
     value: &[u8],
@@ -85,6 +88,7 @@ pub(crate) fn push_cell<A: Allocator + Clone, B: Allocator>(
 }
 
 /// Each reply after a space.
+#[inline(always)]
 pub(crate) fn push_replies<A: Allocator + Clone, B: Allocator>(
     out: &mut Vec<u8, A>,
     replies: &[Option<Value<B>>],
@@ -98,6 +102,7 @@ pub(crate) fn push_replies<A: Allocator + Clone, B: Allocator>(
     Ok(())
 }
 
+#[inline(always)]
 pub(crate) fn push_outcome<A: Allocator>(out: &mut Vec<u8, A>, outcome: u8) -> Result<(), NoMemory>
     ensures { OnOk result (out.new.items ≡ out.old.items ++ spec.outcome_text outcome) }
 {

@@ -119,6 +119,7 @@ fn take_image<A: Allocator>(core: &mut Core<A>) -> Shown<A>
 }
 
 /// Carries out a command, and hands on what is printed of it.
+#[inline(always)]
 pub(crate) fn carry_out<A: Allocator + Clone>(
     core: &mut Core<A>,
     command: Command<Arguments<A>>,
@@ -216,6 +217,7 @@ fn print_line<A: Allocator + Clone>(line: &mut Vec<u8, A>, shown: &Shown<A>) -> 
 }
 
 /// Hands on the image that a command took, if it took one.
+#[inline(always)]
 fn hand_on<P: Sink<Image<A>>, A: Allocator>(sink: &mut P, shown: Shown<A>)
     requires { P.HasRoom sink.old }
     ensures { (images : Images) → P.Has sink.old images → P.Has sink.new (images ++ images_shown shown) }
@@ -227,6 +229,7 @@ fn hand_on<P: Sink<Image<A>>, A: Allocator>(sink: &mut P, shown: Shown<A>)
 }
 
 /// Writes the lines that are printed of a command, those of an image one by one.
+#[inline(always)]
 fn write_shown<W: Write, A: Allocator + Clone>(
     writer: &mut W,
     line: &mut Vec<u8, A>,

@@ -34,6 +34,7 @@ fn appended(most: u64, number: u64, digit: u64) -> Option<u64>
 }
 
 /// The number of these digits, unless it is too great.
+#[inline(always)]
 fn number_of_digits(most: u64, digits: &[u8]) -> Option<u64>
     ensures value { result ≡ spec.number_of_digits most digits.now }
     ensures fits { IfSome result (λ n. n ≤ most) }
@@ -53,6 +54,7 @@ fn number_of_digits(most: u64, digits: &[u8]) -> Option<u64>
 
 /// A decimal of one or more digits, at most so great.
 #[tactic(auto, unfolding(crate::specs::Values::decimal_of))]
+#[inline(always)]
 pub(crate) fn decimal_of(most: u64, word: &[u8]) -> Result<u64, Misread>
     ensures value { ReadsExactly (λ n. n) result (spec.decimal_of most word.now) }
     ensures fits { IfOk result (λ n. n ≤ most) }
@@ -70,6 +72,7 @@ pub(crate) fn decimal_of(most: u64, word: &[u8]) -> Result<u64, Misread>
 
 /// The bytes of a number's digits.
 #[tactic(auto, unfolding(crate::specs::Values::number_value_of))]
+#[inline(always)]
 fn number_of(digits: &[u8]) -> Result<[u8; 8], Misread>
     ensures { ReadsExactly (λ b. b) result (spec.number_value_of digits.now) }
 {
@@ -124,6 +127,7 @@ pub(crate) fn key_of<A: Allocator>(alloc: A, word: &[u8]) -> Result<Key, Unread>
 
 /// What a key may hold, as a word. A short one takes no memory.
 #[tactic(auto, unfolding(crate::specs::Values::value_of))]
+#[inline(always)]
 pub(crate) fn held_of<A: Allocator>(alloc: A, word: &[u8]) -> Result<Value<A>, Unread>
     ensures { ReadsAs (λ v. v) result (spec.held_value_of word.now) }
 {

@@ -19,7 +19,7 @@ call_of call outcome replies = Call call.session call.number call.procedure call
 
 abbrev pub record_of : {A : Type 0} → Entry A → Record
 record_of (entry.Token p n) = Token p n
-record_of (entry.Call call o r) = call_of call o r
+record_of (entry.Call o call r) = call_of call o r
 
 -- the ranges of a record
 abbrev pub IsInRange : Record → Type 0

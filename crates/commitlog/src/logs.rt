@@ -114,6 +114,7 @@ impl<A: Allocator> Log<A> {
 
     /// The record stands last. A record that is refused is dropped. It moves the record, and takes
     /// constant time, amortized over the pushes.
+    #[inline(always)]
     pub fn push(&mut self, added: Record<A>) -> Result<(), PushError>
         ensures ok { OnOk result (self.new.records ≡ self.old.records ++ added ∷ []) }
         ensures err { OnErr result (self.new.records ≡ self.old.records) }

@@ -21,8 +21,8 @@ pub enum Entry<A: Allocator> {
     },
     /// A call, and what it was answered.
     Call {
-        call: Call<A>,
         outcome: u8,
+        call: Call<A>,
         replies: Sequence<Option<Value<A>>, A>,
     },
 }
@@ -70,6 +70,7 @@ impl<A: Allocator> Record<A> {
     }
 
     /// A call, and what it was answered; None where that is out of the ranges.
+    #[inline(always)]
     pub fn call(call: Call<A>, outcome: u8, replies: Sequence<Option<Value<A>>, A>) -> Option<Self>
         ensures value { IfSome result (λ r. r ≡ call_of call outcome replies) }
         ensures ranges { IsSome result ↔ IsInRange (call_of call outcome replies) }

@@ -125,6 +125,7 @@ impl<A: Allocator> KeyHolders<A> {
     }
 
     /// A session's lock on a key becomes no stronger than it is.
+    #[inline(always)]
     pub(crate) fn weaken(&mut self, session: usize, key: &Key, mode: Option<Mode>)
         requires session { session < SESSIONS }
         requires weaker { IsAtMost mode (mode_among (map.get self.old key.now) session) }

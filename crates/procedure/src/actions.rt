@@ -169,6 +169,7 @@ pub(crate) fn gives_value<A: Allocator>(
 
 /// What an instruction asks for; a value that it writes is copied into the answer.
 #[tactic(auto, unfolding(crate::specs::Procedures::need))]
+#[inline(always)]
 pub(crate) fn need_of<A: Allocator + Clone>(
     instruction: &Instr<Value<A>>,
     args: &[Value<A>],
@@ -247,6 +248,7 @@ fn sub_action<A: Allocator>(register: u8, x: Option<u64>, y: Option<u64>) -> Act
     }
 }
 
+#[inline(always)]
 fn read_action<A: Allocator + Clone>(
     register: u8,
     key: Option<&[u8]>,
@@ -305,6 +307,7 @@ fn delete_action<A: Allocator>(key: Option<&[u8]>, found: Option<&Value<A>>) -> 
 
 /// What an instruction does to the machine, where its key holds `found`. Only one that reads takes
 /// memory.
+#[inline(always)]
 pub(crate) fn action_of<A: Allocator + Clone>(
     instruction: &Instr<Value<A>>,
     args: &[Value<A>],

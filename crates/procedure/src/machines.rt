@@ -68,6 +68,7 @@ fn set_register<A: Allocator>(
 impl<A: Allocator + Clone> Machine<A> {
     /// A machine at the start of a call. It shares the procedure's code and makes room for all replies,
     /// so that no step needs any. An argument that the procedure names and that isn't there is absent.
+    #[inline(always)]
     pub fn start(
         alloc: A,
         procedure: &Procedure<A>,
@@ -90,6 +91,7 @@ impl<A: Allocator + Clone> Machine<A> {
 
     /// What the next instruction asks for, or how the call ended. Only the copy of a value that is
     /// written takes memory.
+    #[inline(always)]
     pub fn next(&self) -> Result<Need<Value<A>>, NoMemory>
         ensures value { IfOk result (λ n. n ≡ next_need self.now.args self.now.progress) }
         ensures memory { OnErr result (HasValue (next_need self.now.args self.now.progress)) }
@@ -106,6 +108,7 @@ impl<A: Allocator + Clone> Machine<A> {
 
     /// Executes the next instruction, where its key holds `found` (None where it touches no key).
     /// Only an instruction that reads takes memory. A call that has ended stays as it is.
+    #[inline(always)]
     pub fn fed(&mut self, found: Option<&Value<A>>) -> Result<(), NoMemory>
         ensures ok { OnOk result (self.new ≡ record self.old {
           progress = advanced self.old.args self.old.progress (option_copied found.entry);
@@ -188,6 +191,7 @@ impl<A: Allocator> Machine<A> {
     }
 
     /// The arguments and the replies, without taking memory.
+    #[inline(always)]
     pub fn into_parts(self) -> (Sequence<Value<A>, A>, Sequence<Option<Value<A>>, A>)
         ensures args { result.0 ≡ self.args }
         ensures replies { result.1 ≡ self.progress.replies }

@@ -67,6 +67,7 @@ impl<V, A: Allocator> KeyMap<V, A> {
         self.len() == 0
     }
 
+    #[inline(always)]
     pub fn get(&self, key: &Key) -> Option<&V>
         ensures { option_copied result ≡ map.get self.now key.now }
     {

@@ -160,6 +160,7 @@ impl<A: Allocator> Store<A> {
     }
 
     /// The slot of the key's record. No two slots have the same key.
+    #[inline(always)]
     pub fn find(&self, key: &Key) -> Option<usize>
         ensures found { Finds self.now key.now result }
         ensures once { HasKeysOnce self.now }
@@ -175,6 +176,7 @@ impl<A: Allocator> Store<A> {
     }
 
     /// The live version becomes this, and the old one goes back to the caller.
+    #[inline(always)]
     pub fn write_live(&mut self, slot: usize, live: Option<Value<A>>) -> Option<Value<A>>
         ensures before { result ≡ live_at self.old slot }
         ensures changed { self.new ≡ changed (with_live live) self.old slot }

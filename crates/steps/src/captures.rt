@@ -178,6 +178,7 @@ fn visit<A: Allocator + Clone>(
 }
 
 /// Keeps what a record held, if the image has it. There is room for it.
+#[inline(always)]
 fn keep<A: Allocator>(
     captured: &mut Vec<Entry<A>, A>,
     given: &mut Given<Entry<A>>,

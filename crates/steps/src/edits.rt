@@ -81,6 +81,7 @@ fn copy_before_write<A: Allocator + Clone>(
 }
 
 /// A write to a record: the live version becomes this, and the one before is given back.
+#[inline(always)]
 fn write_record<A: Allocator + Clone>(
     store: &mut Store<A>,
     slot: usize,

@@ -20,6 +20,7 @@ use record_store::{CreateError, Store};
 use std::alloc::Allocator;
 
 /// Tells a machine what the key of its write holds. It takes no memory.
+#[inline(always)]
 fn feed<A: Allocator + Clone>(machine: &mut Machine<A>, found: Option<&Value<A>>)
     requires { CopiesValue (next_need machine.old.args machine.old.progress) → ⊥ }
     ensures { machine.new ≡ record machine.old { progress = advanced machine.old.args machine.old.progress (option_copied found.entry) } }

@@ -31,6 +31,7 @@ pub(crate) fn begin_notes<A: Allocator>(
 }
 
 /// The room of a call's notes is kept for the session's next call.
+#[inline(always)]
 pub(crate) fn keep_room<A: Allocator>(
     rooms: &mut Rooms<A>,
     session: usize,

@@ -44,6 +44,7 @@ fn makes_record<A: Allocator>(machine: &Machine<A>, slot: Option<usize>) -> bool
 }
 
 /// Whether the next instruction must make a record that has no place.
+#[inline(always)]
 fn lacks_place<A: Allocator>(store: &Store<A>, machine: &Machine<A>, slot: Option<usize>) -> bool
     requires { IsFoundBy store.now (touch_in machine.now) slot }
     ensures { result ≡ lacks_place store.now machine.now }

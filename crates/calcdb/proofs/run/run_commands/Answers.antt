@@ -1,12 +1,12 @@
-use Rattle.std.proofs.Common.{◌≡◌, List, [], ◌∷◌, ◌++◌, arith, sym, ap, subst, ◌∙◌, append_assoc}
+use Rattle.std.proofs.Common.{◌≡◌, List, [], ◌∷◌, ◌++◌, arith, refl, sym, ap, subst, ◌∙◌, append_assoc}
 use Rattle.std.specs.Vec.Iter.{into_iter_items}
-use Rattle.std.proofs.KnownBytes.{Appends-trans}
+use Rattle.std.proofs.KnownBytes.{Appends-nil, Appends-trans}
 use Rattle.std.proofs.lemmas.List.{append-nil, nil_from_length}
 use Rattle.std.proofs.lemmas.Result.{err_from_is_err_and}
 use Rattle.procedure.specs.Bytes.{Bytes}
 use Rattle.calcdb.specs.Runs.{Carried, Carries, CarriesAll}
 use Rattle.calcdb.specs.declared.commands.Command.{Command}
-use Rattle.calcdb.proofs.CarryingOn.{carried_more, carried_on, length-of-cons}
+use Rattle.calcdb.proofs.CarryingOn.{carried_more, carried_none, carried_on, length-of-cons}
 use Rattle.calcdb.proofs.Keeping.{stops_at}
 use Rattle.calcdb.proofs.run.run_commands.Goals as goal
 
@@ -18,6 +18,21 @@ returns-then-is_err-clause-err g c = λ start has.
       (i.text, [], sym (append-nil i.text), i.sent),
       i.kept start has,
     )
+
+pub loop-command-init : goal.loop-command-init
+loop-command-init g c =
+    record {
+      front = [];
+      text = [];
+      images = [];
+      has = search;
+      parts = search;
+      carried = carried_none c.args.core.now.catalog c.args.core.now;
+      sent = Appends-nil (g.W.Write.contents c.args.writer.now);
+      catalog = refl;
+      count = search;
+      kept = λ start has. has;
+    }
 
 pub loop-command-preserved : goal.loop-command-preserved
 loop-command-preserved g c =
