@@ -1,6 +1,6 @@
 //! The commands of a script, carried out on a core.
 
-ghost use Rattle.std.specs.Prelude.{◌≡◌, ◌≤◌, ◌++◌, [], IfErr, IfOk, OnErr, OnOk, codes, drop, length, slice_get};
+ghost use Rattle.std.specs.Prelude.{◌≡◌, ◌≤◌, ◌++◌, [], IfErr, IfOk, IfSome, OnErr, OnOk, codes, drop, length, slice_get};
 ghost use Rattle.std.specs.Io.KnownBytes.{Appends};
 ghost use Rattle.procedure.specs.Bytes.{Bytes};
 ghost use Rattle.phase.specs.Phases.{phase_text};
@@ -82,6 +82,19 @@ fn run_call<A: Allocator + Clone>(core: &mut Core<A>, call: NewCall<Arguments<A>
         Err(refused) => Reply::Begin(Err(refused)),
     }
 }
+
+// The lines that are always the same.
+const OK: &[u8] = b"ok\n";
+
+const RAN: &[u8] = b"ran\n";
+
+const READY: &[u8] = b"ready\n";
+
+const SLOT: &[u8] = b"slot\n";
+
+const DONE: &[u8] = b"done\n";
+
+const NONE: &[u8] = b"none\n";
 
 /// What is printed of a command.
 #[derive(Drop)]
@@ -165,9 +178,9 @@ fn push_reply<A: Allocator + Clone>(out: &mut Vec<u8, A>, reply: &Reply<A>) -> R
     ensures { OnOk result (out.new.items ≡ out.old.items ++ reply_text reply.now) }
 {
     match reply {
-        Reply::Begin(Ok(())) | Reply::GiveUp(Ok(())) => push_text(out, b"ok\n"),
-        Reply::Step(Ok(Stepped::Ran)) => push_text(out, b"ran\n"),
-        Reply::Step(Ok(Stepped::Ready)) => push_text(out, b"ready\n"),
+        Reply::Begin(Ok(())) | Reply::GiveUp(Ok(())) => push_text(out, OK),
+        Reply::Step(Ok(Stepped::Ran)) => push_text(out, RAN),
+        Reply::Step(Ok(Stepped::Ready)) => push_text(out, READY),
         Reply::Finish(Ok(answer)) => push_answer(
             out,
             answer.place as u64,
@@ -182,12 +195,12 @@ fn push_reply<A: Allocator + Clone>(out: &mut Vec<u8, A>, reply: &Reply<A>) -> R
         Reply::Start(Err(refused)) => push_refusal(out, refused.name().as_bytes()),
         Reply::Advance(Ok(phase)) => push_phase(out, *phase),
         Reply::Advance(Err(refused)) => push_refusal(out, refused.name().as_bytes()),
-        Reply::Capture(Ok(Captured::Slot)) => push_text(out, b"slot\n"),
-        Reply::Capture(Ok(Captured::Done)) => push_text(out, b"done\n"),
+        Reply::Capture(Ok(Captured::Slot)) => push_text(out, SLOT),
+        Reply::Capture(Ok(Captured::Done)) => push_text(out, DONE),
         Reply::Capture(Err(refused)) => push_refusal(out, refused.name().as_bytes()),
         Reply::TakeImage(true) => Ok(()),
-        Reply::TakeImage(false) => push_text(out, b"none\n"),
-        Reply::Reclaim(None) => push_text(out, b"none\n"),
+        Reply::TakeImage(false) => push_text(out, NONE),
+        Reply::Reclaim(None) => push_text(out, NONE),
         Reply::Reclaim(Some(key)) => push_key(out, key.as_bytes()),
         Reply::Abandon(Ok(number)) => push_numbered(out, b"abandoned ", *number),
         Reply::Abandon(Err(refused)) => push_refusal(out, refused.name().as_bytes()),
@@ -228,6 +241,34 @@ fn hand_on<P: Sink<Image<A>>, A: Allocator>(sink: &mut P, shown: Shown<A>)
     }
 }
 
+/// The line of a command that needs no buffer, since it is always the same.
+fn fixed_line<A: Allocator>(shown: &Shown<A>) -> Option<&'static [u8]>
+    ensures { IfSome result (λ line. line.now ≡ shown_text shown.now) }
+{
+    let Shown::Reply(reply) = shown else {
+        return None;
+    };
+    match reply {
+        Reply::Begin(Ok(())) | Reply::GiveUp(Ok(())) => Some(OK),
+        Reply::Step(Ok(Stepped::Ran)) => Some(RAN),
+        Reply::Step(Ok(Stepped::Ready)) => Some(READY),
+        Reply::Capture(Ok(Captured::Slot)) => Some(SLOT),
+        Reply::Capture(Ok(Captured::Done)) => Some(DONE),
+        Reply::TakeImage(false) | Reply::Reclaim(None) => Some(NONE),
+        _ => None,
+    }
+}
+
+/// Writes a line.
+fn write_line<W: Write>(writer: &mut W, line: &[u8]) -> Result<(), Fault>
+    ensures { Sent result (W.contents writer.old) (W.contents writer.new) line.now }
+{
+    match write_out(writer, line) {
+        Ok(()) => Ok(()),
+        Err(WriteFault) => Err(Fault::Write),
+    }
+}
+
 /// Writes the lines that are printed of a command, those of an image one by one.
 #[inline(always)]
 fn write_shown<W: Write, A: Allocator + Clone>(
@@ -240,13 +281,12 @@ fn write_shown<W: Write, A: Allocator + Clone>(
     if let Shown::Image(image) = shown {
         return write_image_lines(writer, line, image);
     }
-    match print_line(line, shown) {
-        Ok(()) => {}
-        Err(NoMemory) => return Err(Fault::NoMemory),
+    if let Some(fixed) = fixed_line(shown) {
+        return write_line(writer, fixed);
     }
-    match write_out(writer, line.as_slice()) {
-        Ok(()) => Ok(()),
-        Err(WriteFault) => Err(Fault::Write),
+    match print_line(line, shown) {
+        Ok(()) => write_line(writer, line.as_slice()),
+        Err(NoMemory) => Err(Fault::NoMemory),
     }
 }
 
