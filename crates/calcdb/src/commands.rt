@@ -129,6 +129,7 @@ pub(crate) trait ReadCommand<A: Allocator>: Sized {
 }
 
 /// A session's number, at most this.
+#[inline(always)]
 pub(crate) fn session_at(most: u16, line: &[u8]) -> Result<(u16, &[u8]), Misread>
     ensures { ReadsExactly (λ p. (p.0, words p.1.now)) result (spec.session_at most (words line.now)) }
 {
@@ -143,6 +144,7 @@ pub(crate) fn number_at(line: &[u8]) -> Result<(u64, &[u8]), Misread>
     Ok((decimal_of(u64::MAX, word)?, rest))
 }
 
+#[inline(always)]
 pub(crate) fn procedure_at<'a, A: Allocator>(
     names: &Names<A>,
     line: &'a [u8],
@@ -201,6 +203,7 @@ fn arguments_of<A: Allocator + Clone>(alloc: A, line: &[u8]) -> Result<Arguments
 
 /// A session, a number, a procedure's name, and its arguments.
 #[tactic(auto, unfolding(crate::specs::Commands::new_call_of))]
+#[inline(always)]
 fn call_of<A: Allocator + Clone>(
     alloc: A,
     names: &Names<A>,

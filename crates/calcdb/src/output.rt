@@ -1,6 +1,6 @@
 //! Printed values and answers.
 
-ghost use Rattle.std.specs.Prelude.{◌≡◌, ◌++◌, OnOk, decimal};
+ghost use Rattle.std.specs.Prelude.{◌≡◌, ◌++◌, OnOk, codes, decimal};
 ghost use Rattle.hex.specs.Hex.{encode_lower};
 ghost use Rattle.phase.specs.Phases.{phase_text};
 ghost use Rattle.calcdb.specs.Lines.{all_pass};
@@ -32,6 +32,14 @@ pub(crate) fn push_text<A: Allocator>(out: &mut Vec<u8, A>, text: &[u8]) -> Resu
     ensures { OnOk result (out.new.items ≡ out.old.items ++ text.now) }
 {
     out.extend_from_slice(text)?;
+    Ok(())
+}
+
+#[inline(always)]
+fn push_line_feed<A: Allocator>(out: &mut Vec<u8, A>) -> Result<(), NoMemory>
+    ensures { OnOk result (out.new.items ≡ out.old.items ++ codes "\n") }
+{
+    out.push(b'\n')?;
     Ok(())
 }
 
@@ -140,7 +148,7 @@ pub(crate) fn push_answer<A: Allocator + Clone, B: Allocator>(
     push_decimal(out, place)?;
     push_outcome(out, outcome)?;
     push_replies(out, replies)?;
-    push_text(out, b"\n")
+    push_line_feed(out)
 }
 
 /// The line of a refusal.

@@ -122,7 +122,7 @@ fn values_of<'a, A: Allocator + Clone>(
 ) -> Result<(Vec<Value<A>, A>, &'a [u8]), BodyError>
     ensures { Gives (λ x. (x.0.items, x.1.now)) result (many (value_in (greatest_value version)) count bytes.now) }
 {
-    let mut values = Vec::new(alloc.clone()?);
+    let mut values = Vec::with_capacity(alloc.clone()?, usize::from(count))?;
     let mut rest = bytes;
     for _ in 0..count {
         let (value, after) = value_of(alloc, version, rest)?;
@@ -140,7 +140,7 @@ fn cells_of<'a, A: Allocator + Clone>(
 ) -> Result<(Vec<Option<Value<A>>, A>, &'a [u8]), BodyError>
     ensures { Gives (λ x. (x.0.items, x.1.now)) result (many (reply_in (greatest_value version)) count bytes.now) }
 {
-    let mut cells = Vec::new(alloc.clone()?);
+    let mut cells = Vec::with_capacity(alloc.clone()?, usize::from(count))?;
     let mut rest = bytes;
     for _ in 0..count {
         let (cell, after) = reply_of(alloc, version, rest)?;

@@ -124,8 +124,11 @@ impl<A: Allocator> Log<A> {
         if self.is_full() {
             return Err(PushError::LogFull);
         }
-        match self.records.push(added) {
-            Ok(()) => Ok(()),
+        match self.records.reserve(1) {
+            Ok(()) => {
+                self.records.push_reserved(added);
+                Ok(())
+            }
             Err(_) => Err(PushError::NoMemory),
         }
     }

@@ -60,21 +60,32 @@ fn is_read<A: Allocator>(instruction: &Instr<Value<A>>) -> bool
     matches!(instruction, Instr::Read(..))
 }
 
+/// How many of these instructions read.
+fn read_count<A: Allocator>(instructions: &[Instr<Value<A>>]) -> usize
+    ensures { result ≡ count_by is_read instructions.now }
+{
+    instructions.iter().filter(|read| is_read(read)).count()
+}
+
 /// The instructions of a procedure, seen by contracts as the list of them. The catalog and the calls
 /// in their course share them, so a clone takes no memory; it is refused after 2^63 - 1 of them.
 #[derive(Debug, Drop)]
 pub struct Code<A: Allocator> {
     instructions: ArcSlice<Instr<Value<A>>, A>,
+    /// How many of them read.
+    reads: usize,
 }
 
 impl<A: Allocator> Model for Code<A> {
-    ghost use Rattle.std.specs.Prelude.{List};
+    ghost use Rattle.std.specs.Prelude.{◌≡◌, List, count_by};
     ghost use Rattle.std.specs.Arc.{arc_slice_items};
-    ghost use Rattle.procedure.specs.Procedures.{Instruction};
+    ghost use Rattle.procedure.specs.Procedures.{Instruction, is_read};
 
     ghost Value = { List Instruction };
 
     ghost view = { λ c. arc_slice_items c.instructions };
+
+    ghost invariant = { λ c. c.reads ≡ count_by is_read (arc_slice_items c.instructions) };
 }
 
 impl<A: Allocator> Code<A> {
@@ -83,8 +94,10 @@ impl<A: Allocator> Code<A> {
         A: Clone,
         ensures { IfOk result (λ c. c ≡ instructions.items) }
     {
+        let reads = read_count(&instructions);
         Ok(Code {
             instructions: ArcSlice::from_vec(instructions)?,
+            reads,
         })
     }
 
@@ -110,7 +123,7 @@ impl<A: Allocator> Code<A> {
     pub fn read_count(&self) -> usize
         ensures { result ≡ count_by is_read self.now }
     {
-        self.as_slice().iter().filter(|read| is_read(read)).count()
+        self.reads
     }
 
     /// The instruction at an index, if there is one.
@@ -128,6 +141,7 @@ impl<A: Allocator> Clone for Code<A> {
     fn clone(&self) -> Result<Self, AllocError> {
         Ok(Code {
             instructions: self.instructions.clone()?,
+            reads: self.reads,
         })
     }
 }

@@ -6,14 +6,16 @@ ghost use Rattle.std.specs.Cmp.Lexicographic.{pointwise, slice_cmp, nat_list_eq_
 ghost use Rattle.std.specs.Cmp.{partial_equiv_from_equiv};
 ghost use Rattle.std.specs.Cmp.Rules.{hashing};
 ghost use Rattle.std.proofs.Common.{rules};
-ghost use Rattle.byteorder.specs.Endian.{big_number};
-ghost use Rattle.procedure.specs.Keys.{padded};
+ghost use Rattle.byteorder.specs.Endian.{big_from};
 
 use crate::limits::KEY_BYTES;
 use byteorder::{BigEndian, ByteOrder};
 use std::cmp::Ordering;
 use std::hash::{Hash, Hasher};
 use std::marker::Model;
+
+/// How many places are compared at once.
+const WORD_BYTES: usize = 8;
 
 /// A key of 1 to 32 bytes, seen by contracts as the list of them. It is compared and hashed as its
 /// bytes, and takes no memory beside itself.
@@ -42,14 +44,14 @@ impl Model for Key {
     ghost inverse_ok = { packed-key_bytes };
 }
 
-/// The number in the first eight places.
-#[inline]
-fn number_in(places: &[u8]) -> u64
-    requires { 8 ≤ length places.now }
-    ensures value { result ≡ big_number 8 places.now }
+/// The number in the eight places from here on.
+#[inline(always)]
+fn number_in(places: &[u8], from: usize) -> u64
+    requires { from + WORD_BYTES ≤ length places.now }
+    ensures value { result ≡ big_from from WORD_BYTES places.now }
     ensures bytes { (i : ℕ) → slice_index places.now i < 256 }
 {
-    BigEndian::read_u64(places)
+    BigEndian::read_u64(&places[from..])
 }
 
 impl Key {
@@ -87,13 +89,32 @@ impl Key {
         &self.bytes[..self.len as usize]
     }
 
-    /// The first eight places as one number, which is in the order of those bytes.
-    #[inline]
-    fn front(&self) -> u64
-        ensures value { result ≡ big_number 8 (padded self.now) }
+    /// The eight places from here on as one number, which is in the order of their bytes.
+    #[inline(always)]
+    fn word(&self, from: usize) -> u64
+        requires { from + WORD_BYTES ≤ KEY_BYTES }
+        ensures value { result ≡ big_from from WORD_BYTES self.now }
         ensures bytes { (i : ℕ) → slice_index self.now i < 256 }
     {
-        number_in(&self.bytes)
+        number_in(&self.bytes, from)
+    }
+
+    /// How two keys compare whose first eight places are the same.
+    #[inline(never)]
+    fn cmp_behind(&self, other: &Key) -> Ordering
+        requires { (i : ℕ) → i < WORD_BYTES → slice_index self.now i ≡ slice_index other.now i }
+        ensures { result ≡ slice_cmp nat_cmp self.now other.now }
+    {
+        let mut from = WORD_BYTES;
+        while from < KEY_BYTES {
+            let (one, two) = (self.word(from), other.word(from));
+            if one != two {
+                return one.cmp(&two);
+            }
+            from += WORD_BYTES;
+        }
+        // The places behind a key's bytes are 0, so its length decides where all are the same.
+        self.len.cmp(&other.len)
     }
 }
 
@@ -104,7 +125,7 @@ impl PartialEq for Key {
 
     #[inline]
     fn eq(&self, other: &Self) -> bool {
-        self.as_bytes() == other.as_bytes()
+        self.cmp(other).is_eq()
     }
 }
 
@@ -134,12 +155,11 @@ impl Ord for Key {
 
     #[inline]
     fn cmp(&self, other: &Self) -> Ordering {
-        match self.front().cmp(&other.front()) {
-            Ordering::Less => Ordering::Less,
-            Ordering::Greater => Ordering::Greater,
-            // Bytes behind the eighth decide, or none.
-            Ordering::Equal => self.as_bytes().cmp(other.as_bytes()),
+        let (one, two) = (self.word(0), other.word(0));
+        if one != two {
+            return one.cmp(&two);
         }
+        self.cmp_behind(other)
     }
 }
 

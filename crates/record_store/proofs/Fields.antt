@@ -13,7 +13,7 @@ use Rattle.indexmap.specs.IndexMap.{get as found_at}
 use Rattle.procedure.specs.Bytes.{Bytes, Cell}
 use Rattle.record_store.specs.DeadKeys.{IsLeast, SameKey, offer_at}
 use Rattle.record_store.specs.Stores.{StoreRecord, Slots, Finds, IsLeastCandidate, HasKeysOnce, record_at_rest, record_at, key_at, changed, candidate_at, candidate_key, is_live, live_count}
-use Rattle.record_store.specs.Entries.{cleaned, entry_at, entry_changed, live_entries, live_of, offer_of, seen, taken, with_entry_copy, with_entry_stable}
+use Rattle.record_store.specs.Entries.{cleaned, entry_at, entry_changed, live_entries, live_of, offer_of, seen, taken, with_entry_copy, with_entry_live, with_entry_stable}
 use Rattle.record_store.specs.Fields.{AreVacant, HasNot, slots_of, entry_key, IsMarked, IsStore}
 use Rattle.record_store.specs.declared.records.Entry.{Entry}
 use Rattle.record_store.specs.declared.stores.Store.TheInside.{Inside}
@@ -66,6 +66,12 @@ not_found slots key slot finds is = absurd (false≢true (none_is_some slot ((fi
 pub on_err : {X E : Type 0} {P : Type 0} (r : Result X E) → P → OnErr r P
 on_err (Ok x) p = tt
 on_err (Err e) p = p
+
+same_turn : (x y : Cell) → is_some x ≡ is_some y → is_none x ≡ is_none y
+same_turn None None h = refl
+same_turn None (Some y) h = absurd (cc)
+same_turn (Some x) None h = absurd (cc)
+same_turn (Some x) (Some y) h = refl
 
 module _ {A : Type 0} where
   pub length-view : (s : Inside A) → length (slots_of s) ≡ length s.slots.items
@@ -223,6 +229,18 @@ module _ {A : Type 0} where
   renewed_same s f slot shown new sound is changed keeps k l one other =
       offers_own (entry_at s.slots.items slot) f keeps k l (sym (sound.offers slot) ∙ one)
       (ap (option_and_then offer_of) (sym (ap (λ (x : List (Option (Entry A))). entry_at x slot) (is ∙ changed) ∙ entry_here s.slots.items f slot)) ∙ other)
+
+  -- an entry whose live version neither came nor went offers what it did
+  offer_of_other : (o : Option (Entry A)) (live : Cell) → is_some (live_of o) ≡ is_some live → option_and_then offer_of o ≡ option_and_then offer_of (option_map (with_entry_live live) o)
+  offer_of_other None live h = refl
+  offer_of_other (Some e) live h = rw (same_turn e.live live h) refl
+
+  pub kept_offer :
+      (s : Inside A) (live : Cell) (slot : ℕ) (shown new : List (Option (Entry A))) → IsStore s → shown ≡ new → new ≡ entry_changed (with_entry_live live) s.slots.items slot →
+      is_some (live_of (entry_at s.slots.items slot)) ≡ is_some live → offer_at s.dead slot ≡ option_and_then offer_of (entry_at shown slot)
+  kept_offer s live slot shown new sound is changed same =
+      let here : entry_at shown slot ≡ option_map (with_entry_live live) (entry_at s.slots.items slot) = ap (λ (x : List (Option (Entry A))). entry_at x slot) (is ∙ changed) ∙ entry_here s.slots.items (with_entry_live live) slot in
+      sound.offers slot ∙ offer_of_other (entry_at s.slots.items slot) live same ∙ sym (ap (option_and_then offer_of) here)
 
   -- an entry is changed, and its offer made again
   pub renewed_sound :

@@ -14,3 +14,10 @@ same_offer None (Some l) false q a b c d e = absurd (cc)
 same_offer (Some k) None true q a b c d e = absurd (cc)
 same_offer (Some k) None false true a b c d e = absurd (cc)
 same_offer (Some k) None false false a b c d e = absurd (false≢true (c refl))
+
+-- two tests that don't differ
+pub not_other : (p q : Bool) → not (beq p q) ≡ false → p ≡ q
+not_other true true h = refl
+not_other true false h = absurd (cc)
+not_other false true h = absurd (cc)
+not_other false false h = refl

@@ -328,3 +328,21 @@ pub(crate) fn renew_offer<A: Allocator>(slots: &[Slot<A>], dead: &mut DeadKeys<A
         dead.set(slot, offer);
     }
 }
+
+/// The same, where a record may have turned: a live version came, or went. Else it offers what it did.
+#[inline(always)]
+pub(crate) fn renew_offer_where<A: Allocator>(
+    turned: bool,
+    slots: &[Slot<A>],
+    dead: &mut DeadKeys<A>,
+    slot: usize,
+)
+    requires place { IsSome (entry_at slots.now slot) → slot < length dead.old }
+    requires same { SameKey (offer_at dead.old slot) (option_and_then offer_of (entry_at slots.now slot)) }
+    requires as_before { turned ≡ false → offer_at dead.old slot ≡ option_and_then offer_of (entry_at slots.now slot) }
+    ensures { dead.new ≡ slice_set dead.old slot (option_and_then offer_of (entry_at slots.now slot)) }
+{
+    if turned {
+        renew_offer(slots, dead, slot);
+    }
+}

@@ -18,7 +18,8 @@ use crate::dead_keys::DeadKeys;
 use crate::limits::STORE_RECORDS;
 use crate::records;
 use crate::records::{
-    Entry, Record, Slot, Stable, clean_all, copy_of_live, dead_key, lent, renew_offer, vacate,
+    Entry, Record, Slot, Stable, clean_all, copy_of_live, dead_key, lent, renew_offer,
+    renew_offer_where, vacate,
 };
 use indexmap::IndexMap;
 use procedure::{Key, NoMemory, Value};
@@ -181,8 +182,10 @@ impl<A: Allocator> Store<A> {
         ensures before { result ≡ live_at self.old slot }
         ensures changed { self.new ≡ changed (with_live live) self.old slot }
     {
+        let lives = live.is_some();
         let before = records::set_live(&mut self.slots, slot, live);
-        renew_offer(&self.slots, &mut self.dead, slot);
+        let turned = before.is_some() != lives;
+        renew_offer_where(turned, &self.slots, &mut self.dead, slot);
         before
     }
 

@@ -126,7 +126,7 @@ impl<A: Allocator + Clone> Core<A> {
     {
         let mut call = self.prepare(session, number, procedure, args)?;
         let index = usize::from(session);
-        begin_notes(&mut self.rooms, index, &mut call.notes);
+        begin_notes(&mut self.rooms, &mut call.notes);
         self.active.set(index, self.phase);
         self.calls[index] = Some(call);
         Ok(())

@@ -241,7 +241,7 @@ impl<A: Allocator + Clone> Core<A> {
                     outcome,
                     phase,
                 );
-                keep_room(&mut self.rooms, index, notes);
+                keep_room(&mut self.rooms, notes);
                 self.locks.release_all(index);
                 self.aside = self.aside.after_release();
                 self.active.clear(index);

@@ -22,7 +22,7 @@ impl<A: Allocator> Core<A> {
         match taken(&mut self.calls, index) {
             Some(mut call) => {
                 undo_all(&mut self.store, &mut call.notes);
-                keep_room(&mut self.rooms, index, call.notes);
+                keep_room(&mut self.rooms, call.notes);
                 self.locks.release_all(index);
                 self.aside = self.aside.after_release();
                 self.active.clear(index);

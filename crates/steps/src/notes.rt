@@ -2,7 +2,6 @@
 
 ghost use Rattle.std.specs.Prelude.{◌≡◌, []};
 
-use crate::calls::taken;
 use procedure::{Key, Value};
 use std::alloc::Allocator;
 
@@ -13,32 +12,25 @@ pub(crate) struct Note<A: Allocator> {
     pub(crate) before: Option<Value<A>>,
 }
 
-/// For each session the room for notes that its last call left.
-pub(crate) type Rooms<A> = Vec<Option<Vec<Note<A>, A>>, A>;
+/// The room for notes that calls left, of which the next call takes the last.
+// So calls that follow one another use the same memory, whatever their sessions.
+pub(crate) type Rooms<A> = Vec<Vec<Note<A>, A>, A>;
 
-/// The notes of a call that begins: none, in the room that the session's last call left.
-pub(crate) fn begin_notes<A: Allocator>(
-    rooms: &mut Rooms<A>,
-    session: usize,
-    notes: &mut Vec<Note<A>, A>,
-)
+/// The notes of a call that begins: none, in the room that an earlier call left.
+pub(crate) fn begin_notes<A: Allocator>(rooms: &mut Rooms<A>, notes: &mut Vec<Note<A>, A>)
     ensures { notes.new.items ≡ [] }
 {
-    if let Some(room) = taken(rooms, session) {
+    if let Some(room) = rooms.pop() {
         *notes = room;
     }
     notes.clear();
 }
 
-/// The room of a call's notes is kept for the session's next call.
+/// The room of a call's notes is kept for a later call, where there is a place for it.
 #[inline(always)]
-pub(crate) fn keep_room<A: Allocator>(
-    rooms: &mut Rooms<A>,
-    session: usize,
-    mut notes: Vec<Note<A>, A>,
-) {
+pub(crate) fn keep_room<A: Allocator>(rooms: &mut Rooms<A>, mut notes: Vec<Note<A>, A>) {
     notes.clear();
-    if let Some(room) = rooms.get_mut(session) {
-        *room = Some(notes);
+    if rooms.len() < rooms.capacity() {
+        rooms.push_reserved(notes);
     }
 }

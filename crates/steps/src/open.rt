@@ -92,7 +92,7 @@ pub(crate) fn new_sessions<A: Allocator + Copy>(alloc: A) -> Result<Sessions<A>,
 {
     let locks = LockTable::new(alloc)?;
     let calls = none_for_each(alloc)?;
-    let rooms = none_for_each(alloc)?;
+    let rooms = Vec::with_capacity(alloc, usize::from(SESSIONS))?;
     let last = none_for_each(alloc)?;
     Ok(Sessions {
         locks,

@@ -1,5 +1,5 @@
 -- Whether a call has ended, by its machine as it is kept and by its run alone.
-use Rattle.std.proofs.Common.{◌≡◌, ℕ, Bool, true, false, not, cond, List, Option, Some, None, Vec, option_map, refl, sym, ap, ◌∙◌, subst, ◌||◌, true≢false}
+use Rattle.std.proofs.Common.{◌≡◌, ℕ, Bool, true, false, not, cond, List, Some, None, Vec, option_map, refl, sym, ap, ◌∙◌, subst, ◌||◌, true≢false}
 use Rattle.std.specs.Prelude.{◌==◌, length}
 use Rattle.std.specs.Option.{option_or}
 use Rattle.std.proofs.lemmas.Bool.{eq-eqb, ne_eqb}
@@ -131,7 +131,7 @@ module _ {A : Type 0} where
   roomy_view c v same log changed e = ap (λ r. record (view_of c) { log = r }) e ∙ same
 
   -- nor do other rooms for notes
-  pub other_rooms : (c : Inside A) → IsCore c → (rooms : Vec (Option (Vec (Note A) A)) A) → IsCore (record c { rooms = rooms })
+  pub other_rooms : (c : Inside A) → IsCore c → (rooms : Vec (Vec (Note A) A) A) → IsCore (record c { rooms = rooms })
   other_rooms c ok rooms = record {
     world = ok.world;
     run = ok.run;

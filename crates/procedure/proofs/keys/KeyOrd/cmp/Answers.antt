@@ -1,20 +1,21 @@
-use Rattle.std.proofs.Common.{◌≡◌, ◌<◌, ◌∙◌, Less, Greater, nat_cmp, sym}
-use Rattle.std.specs.Cmp.{ranked}
-use Rattle.procedure.proofs.KeyOrders.{less_by_front, greater_by_front, unpadded}
+use Rattle.std.proofs.Common.{◌≡◌, ◌≢◌, ◌∙◌, arith, sym}
+use Rattle.byteorder.specs.Endian.{big_from}
+use Rattle.procedure.proofs.KeyOrders.{SameBefore, decided, same_after}
 use Rattle.procedure.proofs.keys.KeyOrd.cmp.Goals as goal
 
-pub returns-in-Less : goal.returns-in-Less
-returns-in-Less c =
-    let is : Less ≡ nat_cmp c.front.result c.front-2.result = sym c.in-Less.is ∙ c.cmp.ensures in
-    let less : c.front.result < c.front-2.result = ranked c.front.result c.front-2.result Less is in
-    let one = c.front.ensures.value ∙ unpadded c.args.self.now 0 8 in
-    let two = c.front-2.ensures.value ∙ unpadded c.args.other.now 0 8 in
-    sym (less_by_front 8 c.args.self.now c.args.other.now c.front.ensures.bytes c.front-2.ensures.bytes (rw (sym one, sym two) less))
+-- before the first place all are the same
+pub returns-then-one-two : goal.returns-then-one-two
+returns-then-one-two c =
+    let x = c.args.self.now in
+    let y = c.args.other.now in
+    let none : SameBefore 0 x y = λ i less. absurd (omega (arith, less)) in
+    let other : big_from 0 8 x ≢ big_from 0 8 y = λ e. c.if-one-two.true (c.word-one.ensures.value ∙ e ∙ sym c.word-two.ensures.value) in
+    c.cmp.ensures ∙ rw (c.word-one.ensures.value, c.word-two.ensures.value) (decided 0 8 x y c.word-one.ensures.bytes c.word-two.ensures.bytes none other)
 
-pub returns-in-Greater : goal.returns-in-Greater
-returns-in-Greater c =
-    let is : Greater ≡ nat_cmp c.front.result c.front-2.result = sym c.in-Greater.is ∙ c.cmp.ensures in
-    let less : c.front-2.result < c.front.result = ranked c.front.result c.front-2.result Greater is in
-    let one = c.front.ensures.value ∙ unpadded c.args.self.now 0 8 in
-    let two = c.front-2.ensures.value ∙ unpadded c.args.other.now 0 8 in
-    sym (greater_by_front 8 c.args.self.now c.args.other.now c.front.ensures.bytes c.front-2.ensures.bytes (rw (sym one, sym two) less))
+pub cmp_behind-requires : goal.cmp_behind-requires
+cmp_behind-requires c =
+    let x = c.args.self.now in
+    let y = c.args.other.now in
+    let none : SameBefore 0 x y = λ i less. absurd (omega (arith, less)) in
+    let number : big_from 0 8 x ≡ big_from 0 8 y = sym c.word-one.ensures.value ∙ c.if-one-two.false ∙ c.word-two.ensures.value in
+    same_after 0 8 x y c.word-one.ensures.bytes c.word-two.ensures.bytes none number
