@@ -33,4 +33,5 @@ pub mod TextReadings
 pub mod ThreadEndings
 pub mod ThreadEnds
 pub mod ThreadJournals
+pub mod RisingTables
 pub mod WordValues

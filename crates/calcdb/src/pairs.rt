@@ -1,6 +1,6 @@
 //! Texts of pairs, which are loaded as opening images.
 
-ghost use Rattle.std.specs.Prelude.{◌≡◌, ◌≢◌, ◌≤◌, IfErr, IfOk, Ok, Some};
+ghost use Rattle.std.specs.Prelude.{◌≡◌, ◌≢◌, ◌≤◌, IfErr, IfOk, IfSome, Ok, Some};
 ghost use Rattle.std.specs.FinMap as map;
 ghost use Rattle.std.specs.Io.KnownBytes.{Appends};
 ghost use Rattle.procedure.specs.Bytes.{Bytes};
@@ -10,6 +10,7 @@ ghost use Rattle.calcdb.specs.Lines.{words};
 ghost use Rattle.calcdb.specs.Output.{header_line};
 ghost use Rattle.calcdb.specs.Pairs as spec;
 ghost use Rattle.calcdb.specs.Pairs.{EndsLoad, image_of_pairs};
+ghost use Rattle.calcdb.specs.RisingPairs as rising;
 ghost use Rattle.calcdb.specs.Reads.{ReadsAs};
 ghost use Rattle.calcdb.specs.declared.faults.Fault.TheVariants as fault;
 
@@ -22,9 +23,9 @@ use crate::lines::{end_of, is_allowed, is_skipped, word_at};
 use crate::scripts::{SCRIPT_BYTES, ScriptFault};
 use crate::values::{held_of, key_of};
 use image::limits::ENTRIES;
-use image::{Image, OpeningError};
+use image::{Entry, Image, Kind, OpeningError};
 use procedure::streams::{self, read_past};
-use procedure::{Key, KeyMap, Table, Value};
+use procedure::{Key, KeyMap, NoMemory, Table, Value};
 use std::alloc::Allocator;
 use std::io::{Read, Write};
 use std::marker::Model;
@@ -119,14 +120,110 @@ fn read_pairs<A: Allocator + Copy>(alloc: A, text: &[u8]) -> Result<Table<A>, Sc
     Ok(table)
 }
 
-/// The opening image of the pairs of a text.
-fn read_image<A: Allocator + Copy>(alloc: A, text: &[u8]) -> Result<Image<A>, ScriptFault>
+/// The entries that lines have said so far, whose keys rise, and what the memory for more is taken from.
+#[derive(Drop)]
+struct Rising<A: Allocator> {
+    alloc: A,
+    entries: Vec<Entry<A>, A>,
+}
+
+impl<A: Allocator> Model for Rising<A> {
+    ghost use Rattle.std.specs.Prelude.{List};
+    ghost use Rattle.image.specs.Images.{Entry};
+
+    ghost Value = { List Entry };
+
+    ghost view = { λ r. r.entries.items };
+}
+
+/// Whether a key is above the last of these.
+fn is_above<A: Allocator>(entries: &[Entry<A>], key: &Key) -> bool
+    ensures { result ≡ rising.is_above entries.now key.now }
+{
+    match entries.last() {
+        Some(last) => last.key < *key,
+        None => true,
+    }
+}
+
+impl<A: Allocator + Clone> Rising<A> {
+    /// Adds a pair whose key is above those so far.
+    fn add(&mut self, key: Key, held: Value<A>) -> Result<(), Unread>
+        ensures { ReadsAs (λ _. self.new) result (rising.with_pair self.old (key, held)) }
+    {
+        if self.entries.len() >= ENTRIES || !is_above(self.entries.as_slice(), &key) {
+            return Err(Unread::Faulty(Misread::SameKey));
+        }
+        self.entries.push(Entry {
+            key,
+            cell: Some(held),
+        })?;
+        Ok(())
+    }
+
+    /// A line without a fault of its bytes.
+    fn read_words(&mut self, line: &[u8]) -> Result<(), Unread>
+        ensures { ReadsAs (λ _. self.new) result (rising.after_words self.old (words line.now)) }
+    {
+        if is_skipped(line) {
+            return Ok(());
+        }
+        let (key, held) = pair_of(self.alloc.clone()?, line)?;
+        self.add(key, held)
+    }
+}
+
+impl<A: Allocator + Clone> LineReader for Rising<A> {
+    ghost after = { rising.after_line };
+
+    fn read_line(&mut self, line: &[u8]) -> Result<(), Unread> {
+        if !is_allowed(line) {
+            return Err(Unread::Faulty(Misread::Byte));
+        }
+        self.read_words(line)
+    }
+}
+
+/// The opening image of a text whose keys rise. None of any other, and of one with a fault.
+// Such a text needs no table: most are in this order, and any other is read again.
+fn read_rising<A: Allocator + Copy>(alloc: A, text: &[u8]) -> Result<Option<Image<A>>, NoMemory>
+    ensures { IfOk result (λ read. IfSome read (λ i. image_of_pairs text.now ≡ Ok i)) }
+{
+    if text.len() > SCRIPT_BYTES {
+        return Ok(None);
+    }
+    let mut said = Rising {
+        alloc,
+        entries: Vec::new(alloc),
+    };
+    match read_lines(&mut said, 1, Some(text)) {
+        Ok(()) => {}
+        Err(ScriptFault::NoMemory) => return Err(NoMemory),
+        Err(_) => return Ok(None),
+    }
+    let Rising { alloc: _, entries } = said;
+    Ok(Image::new(Kind::Full, 0, 0, 0, entries))
+}
+
+/// The opening image of the pairs of a text whose keys stand in any order.
+fn read_unordered<A: Allocator + Copy>(alloc: A, text: &[u8]) -> Result<Image<A>, ScriptFault>
     ensures { TellsScript (λ i. i) result (image_of_pairs text.now) }
 {
     match Image::opening(alloc, read_pairs(alloc, text)?) {
         Ok(image) => Ok(image),
         Err(OpeningError::TooMany) => unreachable!(),
         Err(OpeningError::NoMemory) => Err(ScriptFault::NoMemory),
+    }
+}
+
+/// The opening image of the pairs of a text.
+fn read_image<A: Allocator + Copy>(alloc: A, text: &[u8]) -> Result<Image<A>, ScriptFault>
+    ensures { TellsScript (λ i. i) result (image_of_pairs text.now) }
+{
+    match read_rising(alloc, text) {
+        Ok(Some(image)) => Ok(image),
+        Ok(None) => read_unordered(alloc, text),
+        Err(NoMemory) => Err(ScriptFault::NoMemory),
     }
 }
 
