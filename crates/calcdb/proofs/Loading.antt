@@ -10,8 +10,7 @@ use Rattle.procedure.specs.Table.{Table, value_at}
 use Rattle.image.specs.Images.{Image}
 use Rattle.image.specs.declared.limits.TheConstants.{ENTRIES}
 use Rattle.calcdb.specs.LineByLine.{after_lines}
-use Rattle.calcdb.specs.Lines.{all_pass, is_allowed, is_skipped, words}
-use Rattle.calcdb.specs.Pairs.{table_after_line, table_after_words, IsLoadFault, pair_of, with_pair}
+use Rattle.calcdb.specs.Pairs.{table_after_line, IsLoadFault, pair_in, taking, with_pair}
 use Rattle.calcdb.specs.Outcomes.{HasLine}
 use Rattle.calcdb.specs.Reads.{◌>>=◌}
 use Rattle.calcdb.specs.Refusing.{text_fault}
@@ -44,20 +43,16 @@ few_with t p =
     few_taken (nat_lt (len t) ENTRIES) (is_none (value_at t p.0)) t (insert t p.0 p.1) refl
     (at_most_one (contains_key t p.0) (len t) (len (insert t p.0 p.1)) (len-insert nat_list_cmp_total t p.0 p.1))
 
-few_read : (t : Table) (o : Option (Bytes × Bytes)) → AreFew (o >>= with_pair t)
-few_read t None = tt
-few_read t (Some p) = few_with t p
+few_taking : (t : Table) (o : Option (Bytes × Bytes)) → IsFew t → AreFew (taking with_pair t o)
+few_taking t None few = few
+few_taking t (Some p) few = few_with t p
 
-few_words : (skipped : Bool) (t : Table) (ws : List Bytes) → IsFew t → AreFew (if skipped then Some t else (pair_of ws >>= with_pair t))
-few_words true t ws few = few
-few_words false t ws few = few_read t (pair_of ws)
-
-few_allowed : (allowed : Bool) (t : Table) (ws : List Bytes) → IsFew t → AreFew (if allowed then table_after_words t ws else None)
-few_allowed true t ws few = few_words (is_skipped ws) t ws few
-few_allowed false t ws few = tt
+few_read : (t : Table) (o : Option (Option (Bytes × Bytes))) → IsFew t → AreFew (o >>= taking with_pair t)
+few_read t None few = tt
+few_read t (Some p) few = few_taking t p few
 
 few_line : (t : Table) (line : Bytes) → IsFew t → AreFew (table_after_line t line)
-few_line t line few = few_allowed (all_pass is_allowed line) t (words line) few
+few_line t line few = few_read t (pair_in line) few
 
 abbrev MakesFew : Result Table ScriptFault → Type 0
 MakesFew (Ok t) = IsFew t

@@ -10,20 +10,20 @@ use Rattle.std.specs.FinMap.{find, is_sorted}
 use Rattle.std.specs.FinMap.Entries.{below_all, by_order, put}
 use Rattle.procedure.specs.Bytes.{Bytes}
 use Rattle.procedure.specs.Table.{Table, value_at}
-use Rattle.image.specs.Images.{Entry, Image, entries_of}
+use Rattle.image.specs.Images.{Entry, Image, IsLawfulImage, entries_of}
+use Rattle.image.proofs.Rising.{by_bytes, less_of, parts}
+use Rattle.image.proofs.Tables.{lawful_full}
+use Rattle.calcdb.proofs.Loading.{few_pairs}
 use Rattle.image.specs.declared.images.Kind.TheVariants.{Full}
 use Rattle.image.specs.declared.limits.TheConstants.{ENTRIES}
 use Rattle.calcdb.specs.LineByLine.{after_lines}
-use Rattle.calcdb.specs.Lines.{all_pass, is_allowed, is_skipped, lines, words}
-use Rattle.calcdb.specs.Pairs.{image_of_pairs, loaded, pair_of, table_after_line, table_after_words, table_of_pairs, with_pair}
+use Rattle.calcdb.specs.Lines.{lines}
+use Rattle.calcdb.specs.Pairs.{image_of_pairs, loaded, pair_in, table_after_line, table_of_pairs, taking, with_pair}
 use Rattle.calcdb.specs.Reads.{◌>>=◌}
-use Rattle.calcdb.specs.RisingPairs as rising
+use Rattle.calcdb.specs.inside.RisingPairs as rising
 use Rattle.calcdb.specs.declared.scripts.ScriptFault.{ScriptFault}
 use Rattle.calcdb.specs.declared.scripts.ScriptFault.TheVariants.{Line, Size}
 use Rattle.calcdb.specs.declared.scripts.TheConstants.{SCRIPT_BYTES}
-
-abbrev by_bytes : Bytes → Bytes → Ordering
-by_bytes = slice_cmp nat_cmp
 
 abbrev shown : List (Bytes × Bytes) → List Entry
 shown xs = map (λ e. (e.0, Some e.1)) xs
@@ -33,32 +33,18 @@ AllBelow : List (Bytes × Bytes) → Bytes → Type 0
 AllBelow [] k = Unit {0}
 AllBelow (x ∷ xs) k = (by_bytes x.0 k ≡ Less) × AllBelow xs k
 
-less_of : (o : Ordering) → is_lt o ≡ true → o ≡ Less
-less_of Less h = refl
-less_of Equal h = absurd (cc)
-less_of Greater h = absurd (cc)
-
-less_holds : (o : Ordering) → T (is_lt o) → o ≡ Less
-less_holds Less h = refl
-less_holds Equal h = absurd h
-less_holds Greater h = absurd h
-
-parts : (a b : Bool) → T (a && b) → T a × T b
-parts true b h = (tt, h)
-parts false b h = absurd h
-
 below_last : (xs : List (Bytes × Bytes)) (n : ℕ) (k : Bytes) → length xs ≡ suc n → T (is_sorted by_bytes xs) →
     (elim (slice_get (shown xs) n) [ None ↦ true | Some e ↦ is_lt (by_bytes e.0 k) ]) ≡ true → AllBelow xs k
 unfolding AllBelow
 below_last [] n k e s l = tt
-below_last (x ∷ []) zero k e s l = (less_of (by_bytes x.0 k) l, tt)
+below_last (x ∷ []) zero k e s l = (less_of (by_bytes x.0 k) (subst T (sym l) tt), tt)
 below_last (x ∷ []) (suc n) k e s l = absurd (omega (arith, e))
 below_last (x ∷ y ∷ ys) zero k e s l = absurd (omega (arith, e))
 below_last (x ∷ y ∷ ys) (suc n) k e s l =
     let (here, there) = parts (below_all by_bytes x.0 (y ∷ ys)) (is_sorted by_bytes (y ∷ ys)) s in
     let (next, later) = parts (is_lt (by_bytes x.0 y.0)) (below_all by_bytes x.0 ys) here in
     let rest : AllBelow (y ∷ ys) k = below_last (y ∷ ys) n k (omega (arith, e)) there l in
-    (nat_list_cmp_total.trans x.0 y.0 k (less_holds (by_bytes x.0 y.0) next) rest.0, rest)
+    (nat_list_cmp_total.trans x.0 y.0 k (less_of (by_bytes x.0 y.0) next) rest.0, rest)
 
 above_all : (xs : List (Bytes × Bytes)) (k : Bytes) → T (is_sorted by_bytes xs) → rising.is_above (shown xs) k ≡ true → AllBelow xs k
 unfolding AllBelow
@@ -116,16 +102,10 @@ told_pair es new t p tells h =
           ∙ map-append (λ e. (e.0, Some e.1)) (finite.entries t) ((p.0, p.1) ∷ []) ∙ ap (λ (x : List Entry). x ++ (p.0, Some p.1) ∷ []) tells ∙ is,
     )
 
-told_words : (skipped : Bool) (o : Option (Bytes × Bytes)) (es new : List Entry) (t : Table) → entries_of t ≡ es → (if skipped then Some es else (o >>= rising.with_pair es)) ≡ Some new →
-    Told (if skipped then Some t else (o >>= with_pair t)) new
-told_words true o es new t tells h = (t, refl, tells ∙ same_some es new h)
-told_words false None es new t tells h = absurd (cc)
-told_words false (Some p) es new t tells h = told_pair es new t p tells h
-
-told_line : (allowed : Bool) (ws : List Bytes) (es new : List Entry) (t : Table) → entries_of t ≡ es → (if allowed then rising.after_words es ws else None) ≡ Some new →
-    Told (if allowed then table_after_words t ws else None) new
-told_line true ws es new t tells h = told_words (is_skipped ws) (pair_of ws) es new t tells h
-told_line false ws es new t tells h = absurd (cc)
+told_in : (o : Option (Option (Bytes × Bytes))) (es new : List Entry) (t : Table) → entries_of t ≡ es → (o >>= taking rising.with_pair es) ≡ Some new → Told (o >>= taking with_pair t) new
+told_in None es new t tells h = absurd (cc)
+told_in (Some None) es new t tells h = (t, refl, tells ∙ same_some es new h)
+told_in (Some (Some p)) es new t tells h = told_pair es new t p tells h
 
 -- what is read after a line, which is faulty where nothing is left of it
 abbrev entries_then : Option (List Entry) → ℕ → (List Entry → Result (List Entry) ScriptFault) → Result (List Entry) ScriptFault
@@ -152,7 +132,7 @@ unfolding after_lines
 told_lines [] n es new t tells h = (t, refl, tells ∙ same_ok es new h)
 told_lines (l ∷ ls) n es new t tells h =
     next_line (rising.after_line es l) n new (table_after_line t l) (λ u. after_lines rising.after_line u (n + 1) ls) (λ v. after_lines table_after_line v (n + 1) ls)
-    (λ u e. told_line (all_pass is_allowed l) (words l) es u t tells e) (λ u v same goes. told_lines ls (n + 1) u new v same goes) h
+    (λ u e. told_in (pair_in l) es u t tells e) (λ u v same goes. told_lines ls (n + 1) u new v same goes) h
 
 no_items : (xs : List (Bytes × Bytes)) → length xs ≡ 0 → xs ≡ []
 no_items [] e = refl
@@ -164,11 +144,17 @@ no_pairs = finite.empty
 none_in_empty : entries_of no_pairs ≡ []
 none_in_empty = ap shown (no_items (finite.entries no_pairs) (sym (finite.len-entries no_pairs) ∙ finite.len-empty by_bytes Bytes))
 
--- the entries of a text whose keys rise are those of its image
-pub rising_image : (text : Bytes) (es : List Entry) → length text ≤ SCRIPT_BYTES → after_lines rising.after_line [] 1 (lines text) ≡ Ok es →
-    image_of_pairs text ≡ Ok (record { kind = Full; number = 0; base = 0; place = 0; entries = es })
-unfolding table_of_pairs
-rising_image text es fits h =
-    let (t, is, told) = told_lines (lines text) 1 [] es finite.empty none_in_empty h in
-    ap (λ (b : Bool). loaded (if b then after_lines table_after_line finite.empty 1 (lines text) else Err Size)) (le-leb (length text) SCRIPT_BYTES fits)
-    ∙ ap (λ (r : Result Table ScriptFault). loaded r) is ∙ ap (λ (x : List Entry). Ok (record { kind = Full; number = 0; base = 0; place = 0; entries = x })) told
+module _ (text : Bytes) (es : List Entry) (h : after_lines rising.after_line [] 1 (lines text) ≡ Ok es) where
+  -- they are lawful
+  pub rising_lawful : IsLawfulImage (record { kind = Full; number = 0; base = 0; place = 0; entries = es })
+  rising_lawful =
+      let (t, is, told) = told_lines (lines text) 1 [] es finite.empty none_in_empty h in
+      subst (λ (x : List Entry). IsLawfulImage (record { kind = Full; number = 0; base = 0; place = 0; entries = x })) told (lawful_full 0 0 t (few_pairs (lines text) t is))
+
+  -- the entries of a text whose keys rise are those of its image
+  pub rising_image : length text ≤ SCRIPT_BYTES → image_of_pairs text ≡ Ok (record { kind = Full; number = 0; base = 0; place = 0; entries = es })
+  unfolding table_of_pairs
+  rising_image fits =
+      let (t, is, told) = told_lines (lines text) 1 [] es finite.empty none_in_empty h in
+      ap (λ (b : Bool). loaded (if b then after_lines table_after_line finite.empty 1 (lines text) else Err Size)) (le-leb (length text) SCRIPT_BYTES fits)
+      ∙ ap (λ (r : Result Table ScriptFault). loaded r) is ∙ ap (λ (x : List Entry). Ok (record { kind = Full; number = 0; base = 0; place = 0; entries = x })) told

@@ -1,11 +1,11 @@
 -- Texts that are shown line by line.
-use Rattle.std.proofs.Common.{◌≡◌, ◌⊎◌, inl, inr, ◌<◌, ◌≤◌, ℕ, ◌+◌, List, [], ◌++◌, length, get_or, drop, codes, Option, Result, Ok, Err, refl, sym, ap, subst, ◌∙◌, append_assoc}
+use Rattle.std.proofs.Common.{◌≡◌, ◌⊎◌, inl, inr, ◌<◌, ◌≤◌, ℕ, ◌+◌, List, [], ◌∷◌, ◌++◌, length, get_or, drop, codes, Option, Result, Ok, Err, refl, sym, ap, subst, ◌∙◌, append_assoc}
 use Rattle.std.proofs.lemmas.List.{append-nil, drop_all}
 use Rattle.std.proofs.KnownBytes.{Appends-nil}
 use Rattle.std.specs.Io.KnownBytes.{Appends}
 use Rattle.std.specs.Prelude.{IfErr, OnOk}
 use Rattle.procedure.specs.Bytes.{Bytes}
-use Rattle.commitlog.specs.LogReadings.{Damaged, IsReading, NotALog, Reading, Tells}
+use Rattle.commitlog.specs.LogReadings.{Damaged, IsReading, NotALog, Reading}
 use Rattle.commitlog.specs.Records.{Record}
 use Rattle.commitlog.specs.declared.decoding.LogError.{LogError}
 use Rattle.commitlog.specs.declared.decoding.LogError.TheVariants as log
@@ -62,17 +62,25 @@ stops_in_front old new text more rest f parts (inr said) = inr said
 
 -- ---- line by line
 
-pub next_record : (rs : List Record) (i : ℕ) (r : Record) → i < length rs → r ≡ get_or rs i r → records_text i (drop i rs) ≡ record_text i r ++ records_text (i + 1) (drop (i + 1) rs)
+pub next_record : (i : ℕ) (r : Record) (all rs : List Record) → all ≡ r ∷ rs → records_text i all ≡ record_text i r ++ records_text (i + 1) rs
 unfolding records_text
-next_record rs i r lt is = rw (next_is rs i r lt is) refl
+next_record i r all rs is = rw is refl
 
-pub no_record : (rs : List Record) (i : ℕ) → length rs ≤ i → records_text i (drop i rs) ≡ []
+pub no_record : (i : ℕ) (rs : List Record) → rs ≡ [] → records_text i rs ≡ []
 unfolding records_text
-no_record rs i le = rw (drop_all i rs le) refl
+no_record i rs is = rw is refl
 
 pub next_entry : (es : List Entry) (i : ℕ) (e : Entry) → i < length es → e ≡ get_or es i e → entries_text (drop i es) ≡ entry_text e ++ entries_text (drop (i + 1) es)
 unfolding entries_text
 next_entry es i e lt is = rw (next_is es i e lt is) refl
+
+pub first_entry : (e : Entry) (all es : List Entry) → all ≡ e ∷ es → entries_text all ≡ entry_text e ++ entries_text es
+unfolding entries_text
+first_entry e all es is = rw is refl
+
+pub none_left : (es : List Entry) → es ≡ [] → entries_text es ≡ []
+unfolding entries_text
+none_left es is = rw is refl
 
 pub no_entry : (es : List Entry) (i : ℕ) → length es ≤ i → entries_text (drop i es) ≡ []
 unfolding entries_text
@@ -148,35 +156,9 @@ refused_log bytes log.NotALog not damaged = inr (NotALog, not refl, refl)
 refused_log bytes (log.Damaged i) not damaged = inr (Damaged i, damaged i refl, refl)
 refused_log bytes log.NoMemory not damaged = inl refl
 
-told_log : (A : Type 0) (e : LogError) (r : Reading) → Tells {A = A} (Err e) r → (log_reason e ≡ reason.NoMemory) ⊎ (of_reading r ≡ Err (log_reason e))
-told_log A log.NotALog r is = inr (rw is refl)
-told_log A (log.Damaged i) r is = inr (rw is refl)
-told_log A log.NoMemory r is = inl refl
-
-pub only_log : (A : Type 0) (bytes : Bytes) (e : LogError) → ((r : Reading) → IsReading bytes r → Tells {A = A} (Err e) r) → (says : Result Bytes Reason) → PrintsLog bytes says →
-    (log_reason e ≡ reason.NoMemory) ⊎ (says ≡ Err (log_reason e))
-only_log A bytes e only says (r, reads, same) = rw same (told_log A e r (only r reads))
-
-pub refused_image : (bytes : Bytes) (e : ReadError) → (◌≡◌ {A = Result Image ReadError} (Err e) (Err read.NoMemory)) ⊎ Refuses e bytes →
-    (read_reason e ≡ reason.NoMemory) ⊎ PrintsImage bytes (Err (read_reason e))
-refused_image bytes e (inl none) = (let wanting : e ≡ read.NoMemory = cc in inl (ap read_reason wanting))
-refused_image bytes e (inr is) = inr (Err e, is, refl)
-
-told_image : (e : ReadError) (i : Result Image ReadError) → (Err e ≡ i) ⊎ (◌≡◌ {A = Result Image ReadError} (Err e) (Err read.NoMemory)) →
-    (read_reason e ≡ reason.NoMemory) ⊎ (of_image i ≡ Err (read_reason e))
-told_image e i (inl is) = inr (ap of_image (sym is))
-told_image e i (inr none) = (let wanting : e ≡ read.NoMemory = cc in inl (ap read_reason wanting))
-
-pub only_image : (bytes : Bytes) (e : ReadError) → ((i : Result Image ReadError) → IsAnswer bytes i → (Err e ≡ i) ⊎ (◌≡◌ {A = Result Image ReadError} (Err e) (Err read.NoMemory))) →
-    (says : Result Bytes Reason) → PrintsImage bytes says →
-    (read_reason e ≡ reason.NoMemory) ⊎ (says ≡ Err (read_reason e))
-only_image bytes e only says (i, answer, same) = rw same (told_image e i (only i answer))
+pub refused_image : (bytes : Bytes) (e : ReadError) → Refuses e bytes → (read_reason e ≡ reason.NoMemory) ⊎ PrintsImage bytes (Err (read_reason e))
+refused_image bytes e is = inr (Err e, is, refl)
 
 -- an image that was read is all that the bytes print
-pub image_only : (bytes : Bytes) (i : Image) → ((j : Result Image ReadError) → IsAnswer bytes j → (Ok i ≡ j) ⊎ (Ok i ≡ Err read.NoMemory)) → (says : Result Bytes Reason) → PrintsImage bytes says →
-    says ≡ Ok (image_text i)
-image_only bytes i only says (j, answer, same) = elim (only j answer) [ inl is ↦ same ∙ ap of_image (sym is) | inr e ↦ absurd (cc) ]
-
-pub image_answered : (bytes : Bytes) (i : Image) → (Ok i ≡ Err read.NoMemory) ⊎ IsAnswer bytes (Ok i) → IsAnswer bytes (Ok i)
-image_answered bytes i (inl none) = absurd (cc)
-image_answered bytes i (inr is) = is
+pub image_only : (bytes : Bytes) (i : Image) → ((j : Result Image ReadError) → IsAnswer bytes j → Ok i ≡ j) → (says : Result Bytes Reason) → PrintsImage bytes says → says ≡ Ok (image_text i)
+image_only bytes i only says (j, answer, same) = same ∙ ap of_image (sym (only j answer))

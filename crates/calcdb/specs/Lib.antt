@@ -25,6 +25,6 @@ pub mod Reasons
 pub mod Recovering
 pub mod RunFiles
 pub mod Refusing
-pub mod RisingPairs
 pub mod ThreadCommands
 pub mod Values
+pub mod inside

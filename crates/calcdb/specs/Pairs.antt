@@ -32,13 +32,18 @@ pair_of ws = do
 abbrev pub with_pair : Table → Bytes × Bytes → Option Table
 with_pair t p = if nat_lt (map.len t) ENTRIES && is_none (value_at t p.0) then Some (map.insert t p.0 p.1) else None
 
--- the table after a line's words
-abbrev pub table_after_words : Table → List Bytes → Option Table
-table_after_words t ws = if is_skipped ws then Some t else (pair_of ws >>= with_pair t)
+-- the pair that a line is, if it isn't skipped; None where the line is faulty
+abbrev pub pair_in : Bytes → Option (Option (Bytes × Bytes))
+pair_in line = if all_pass is_allowed line then (if is_skipped (words line) then Some None else (pair_of (words line) >>= λ p. Some (Some p))) else None
+
+-- what was made so far, with the pair of a line
+abbrev pub taking : {T : Type 0} → (T → Bytes × Bytes → Option T) → T → Option (Bytes × Bytes) → Option T
+taking with t None = Some t
+taking with t (Some p) = with t p
 
 -- the table after one line more
 abbrev pub table_after_line : Table → Bytes → Option Table
-table_after_line t line = if all_pass is_allowed line then table_after_words t (words line) else None
+table_after_line t line = pair_in line >>= taking with_pair t
 
 -- the table of a text of at most 4,194,304 bytes, or its fault
 unfoldable pub table_of_pairs : Bytes → Result Table ScriptFault

@@ -223,7 +223,7 @@ fn push_place<A: Allocator>(out: &mut Vec<u8, A>, place: u64, count: u64) -> Res
 }
 
 /// The header line of an image with these parts.
-fn push_header<A: Allocator>(
+pub(crate) fn push_header<A: Allocator>(
     out: &mut Vec<u8, A>,
     kind: Kind,
     number: u64,

@@ -1,6 +1,6 @@
 //! Texts of pairs, which are loaded as opening images.
 
-ghost use Rattle.std.specs.Prelude.{◌≡◌, ◌≢◌, ◌≤◌, IfErr, IfOk, IfSome, Ok, Some};
+ghost use Rattle.std.specs.Prelude.{◌≡◌, ◌≢◌, ◌≤◌, IfErr, IfNone, IfOk, IfSome, Ok, Some, option_map};
 ghost use Rattle.std.specs.FinMap as map;
 ghost use Rattle.std.specs.Io.KnownBytes.{Appends};
 ghost use Rattle.procedure.specs.Bytes.{Bytes};
@@ -10,7 +10,7 @@ ghost use Rattle.calcdb.specs.Lines.{words};
 ghost use Rattle.calcdb.specs.Output.{header_line};
 ghost use Rattle.calcdb.specs.Pairs as spec;
 ghost use Rattle.calcdb.specs.Pairs.{EndsLoad, image_of_pairs};
-ghost use Rattle.calcdb.specs.RisingPairs as rising;
+ghost use Rattle.calcdb.specs.inside.RisingPairs as rising;
 ghost use Rattle.calcdb.specs.Reads.{ReadsAs};
 ghost use Rattle.calcdb.specs.declared.faults.Fault.TheVariants as fault;
 
@@ -41,6 +41,19 @@ fn pair_of<A: Allocator + Clone>(alloc: A, line: &[u8]) -> Result<(Key, Value<A>
     let held = held_of(alloc, second)?;
     end_of(rest)?;
     Ok((key, held))
+}
+
+/// The pair that a line is; None of one that is skipped.
+fn pair_in<A: Allocator + Clone>(alloc: &A, line: &[u8]) -> Result<Option<(Key, Value<A>)>, Unread>
+    ensures { ReadsAs (option_map (λ p. (p.0, p.1))) result (spec.pair_in line.now) }
+{
+    if !is_allowed(line) {
+        return Err(Unread::Faulty(Misread::Byte));
+    }
+    if is_skipped(line) {
+        return Ok(None);
+    }
+    Ok(Some(pair_of(alloc.clone()?, line)?))
 }
 
 /// The pairs that lines have said so far, and what the memory for more is taken from.
@@ -78,27 +91,16 @@ impl<A: Allocator + Clone> Pairs<A> {
             Some(_before) => Err(Unread::Faulty(Misread::SameKey)),
         }
     }
-
-    /// A line without a fault of its bytes.
-    fn read_words(&mut self, line: &[u8]) -> Result<(), Unread>
-        ensures { ReadsAs (λ _. self.new) result (spec.table_after_words self.old (words line.now)) }
-    {
-        if is_skipped(line) {
-            return Ok(());
-        }
-        let (key, held) = pair_of(self.alloc.clone()?, line)?;
-        self.add(key, held)
-    }
 }
 
 impl<A: Allocator + Clone> LineReader for Pairs<A> {
     ghost after = { spec.table_after_line };
 
     fn read_line(&mut self, line: &[u8]) -> Result<(), Unread> {
-        if !is_allowed(line) {
-            return Err(Unread::Faulty(Misread::Byte));
+        match pair_in(&self.alloc, line)? {
+            Some((key, held)) => self.add(key, held),
+            None => Ok(()),
         }
-        self.read_words(line)
     }
 }
 
@@ -160,34 +162,24 @@ impl<A: Allocator + Clone> Rising<A> {
         })?;
         Ok(())
     }
-
-    /// A line without a fault of its bytes.
-    fn read_words(&mut self, line: &[u8]) -> Result<(), Unread>
-        ensures { ReadsAs (λ _. self.new) result (rising.after_words self.old (words line.now)) }
-    {
-        if is_skipped(line) {
-            return Ok(());
-        }
-        let (key, held) = pair_of(self.alloc.clone()?, line)?;
-        self.add(key, held)
-    }
 }
 
 impl<A: Allocator + Clone> LineReader for Rising<A> {
     ghost after = { rising.after_line };
 
     fn read_line(&mut self, line: &[u8]) -> Result<(), Unread> {
-        if !is_allowed(line) {
-            return Err(Unread::Faulty(Misread::Byte));
+        match pair_in(&self.alloc, line)? {
+            Some((key, held)) => self.add(key, held),
+            None => Ok(()),
         }
-        self.read_words(line)
     }
 }
 
 /// The opening image of a text whose keys rise. None of any other, and of one with a fault.
-// Such a text needs no table: most are in this order, and any other is read again.
+// Such a text needs no table, and any other is read again.
 fn read_rising<A: Allocator + Copy>(alloc: A, text: &[u8]) -> Result<Option<Image<A>>, NoMemory>
-    ensures { IfOk result (λ read. IfSome read (λ i. image_of_pairs text.now ≡ Ok i)) }
+    ensures image { IfOk result (λ read. IfSome read (λ i. image_of_pairs text.now ≡ Ok i)) }
+    ensures none { IfOk result (λ read. IfNone read (rising.IsRising text.now → ⊥)) }
 {
     if text.len() > SCRIPT_BYTES {
         return Ok(None);
@@ -202,7 +194,10 @@ fn read_rising<A: Allocator + Copy>(alloc: A, text: &[u8]) -> Result<Option<Imag
         Err(_) => return Ok(None),
     }
     let Rising { alloc: _, entries } = said;
-    Ok(Image::new(Kind::Full, 0, 0, 0, entries))
+    match Image::new(Kind::Full, 0, 0, 0, entries) {
+        Some(image) => Ok(Some(image)),
+        None => unreachable!(),
+    }
 }
 
 /// The opening image of the pairs of a text whose keys stand in any order.

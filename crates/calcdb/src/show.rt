@@ -1,23 +1,24 @@
 //! Logs and images in print.
 
-ghost use Rattle.std.specs.Prelude.{◌≡◌, ◌↔◌, ◌++◌, IfErr, IsTrue, Ok, OnOk, length};
+ghost use Rattle.std.specs.Prelude.{◌≡◌, ◌≤◌, ◌↔◌, ◌++◌, IfErr, IsTrue, Ok, OnOk, length};
 ghost use Rattle.std.specs.declared.result.Result.{Result};
 ghost use Rattle.std.specs.Io.KnownBytes.{Appends};
 ghost use Rattle.procedure.specs.Bytes.{Bytes};
 ghost use Rattle.commitlog.specs.Records.{Token, record_of};
+ghost use Rattle.commitlog.specs.declared.limits.TheConstants.{LOG_RECORDS};
 ghost use Rattle.calcdb.specs.Output.{entries_text, entry_text, header_line, image_text};
 ghost use Rattle.calcdb.specs.Showing as spec;
 ghost use Rattle.calcdb.specs.Showing.{AgreesWithPrint, BreaksOff, HasLogMagic, EndsShow, IsShown, Prints, PrintsImage, PrintsLog, StopsIn, log_text};
 ghost use Rattle.calcdb.specs.declared.faults.Reason.{Reason};
 
-use crate::faults::refusals::{refuse, say_no_memory, write_header, write_line};
+use crate::faults::refusals::{refuse, say_no_memory, write_line};
 use crate::faults::{Fault, Reason};
 use crate::output::{
-    phase_name, push_decimal, push_entry, push_header_line, push_outcome, push_replies, push_text,
-    push_value,
+    phase_name, push_decimal, push_entry, push_header, push_header_line, push_outcome,
+    push_replies, push_text, push_value,
 };
-use commitlog::{Ending, Entry as LogEntry, Record, Version, read_log};
-use image::{Entry, Image, read_image};
+use commitlog::{Ending, Entry as LogEntry, Record, StoredRecords, Version, check_log};
+use image::{CheckedImage, Entry, Image, StoredEntries, check_image};
 use phase::Phase;
 use procedure::{Call, NoMemory, Value};
 use std::alloc::Allocator;
@@ -156,34 +157,43 @@ fn write_record<W: Write, A: Allocator + Clone, B: Allocator>(
     }
 }
 
-/// Writes the lines of a log's records.
-fn write_records<W: Write, A: Allocator + Clone, B: Allocator>(
+/// Writes the lines of a log's records, each made when its turn comes.
+fn write_records<W: Write, A: Allocator + Clone>(
+    alloc: &A,
     writer: &mut W,
     line: &mut Vec<u8, A>,
-    records: &[Record<B>],
+    records: StoredRecords<'_>,
 ) -> Result<(), Fault>
-    ensures ok { OnOk result (Appends (W.contents writer.old) (W.contents writer.new) (spec.records_text 0 records.now)) }
-    ensures err { IfErr result (λ f. BreaksOff (spec.records_text 0 records.now) (W.contents writer.old) (W.contents writer.new) f) }
+    requires { length records ≤ LOG_RECORDS }
+    ensures ok { OnOk result (Appends (W.contents writer.old) (W.contents writer.new) (spec.records_text 0 records.entry)) }
+    ensures err { IfErr result (λ f. BreaksOff (spec.records_text 0 records.entry) (W.contents writer.old) (W.contents writer.new) f) }
 {
-    for (place, found) in records.iter().enumerate() {
-        write_record(writer, line, place, found)?;
+    let mut records = records;
+    let mut place = 0;
+    loop {
+        let found = match records.next(alloc) {
+            Ok(Some(found)) => found,
+            Ok(None) => return Ok(()),
+            Err(NoMemory) => return Err(Fault::NoMemory),
+        };
+        write_record(writer, line, place, &found)?;
+        place += 1;
     }
-    Ok(())
 }
 
 /// Writes a log, line by line.
 fn write_log<W: Write, A: Allocator + Copy>(
     alloc: A,
     writer: &mut W,
-    records: &[Record<A>],
+    records: StoredRecords<'_>,
     ending: Ending,
 ) -> Result<(), Fault>
-    ensures ok { OnOk result (Appends (W.contents writer.old) (W.contents writer.new) (log_text records.now ending)) }
-    ensures err { IfErr result (λ f. StopsIn (log_text records.now ending) (W.contents writer.old) (W.contents writer.new) f) }
+    ensures ok { OnOk result (Appends (W.contents writer.old) (W.contents writer.new) (log_text records.entry ending)) }
+    ensures err { IfErr result (λ f. StopsIn (log_text records.entry ending) (W.contents writer.old) (W.contents writer.new) f) }
 {
     let mut line = Vec::new(alloc);
     write_count(writer, &mut line, records.len(), ending)?;
-    write_records(writer, &mut line, records)
+    write_records(&alloc, writer, &mut line, records)
 }
 
 /// Writes the line of an entry of an image.
@@ -246,18 +256,57 @@ pub(crate) fn write_image_lines<W: Write, A: Allocator + Clone, B: Allocator>(
     write_entries(writer, line, image.entries())
 }
 
-/// Writes an image, line by line.
+/// Writes the lines of an image's entries, each made when its turn comes.
+fn write_stored_entries<W: Write, A: Allocator + Copy>(
+    alloc: A,
+    writer: &mut W,
+    line: &mut Vec<u8, A>,
+    entries: StoredEntries<'_>,
+) -> Result<(), Fault>
+    ensures ok { OnOk result (Appends (W.contents writer.old) (W.contents writer.new) (entries_text entries.entry)) }
+    ensures err { IfErr result (λ f. BreaksOff (entries_text entries.entry) (W.contents writer.old) (W.contents writer.new) f) }
+{
+    let mut entries = entries;
+    loop {
+        let entry = match entries.next(alloc) {
+            Ok(Some(entry)) => entry,
+            Ok(None) => return Ok(()),
+            Err(NoMemory) => return Err(Fault::NoMemory),
+        };
+        write_entry(writer, line, &entry)?;
+    }
+}
+
+/// Writes the header line of an image that was checked.
+fn write_checked_header<W: Write, A: Allocator>(
+    writer: &mut W,
+    line: &mut Vec<u8, A>,
+    image: &CheckedImage<'_>,
+) -> Result<(), Fault>
+    ensures ok { OnOk result (Appends (W.contents writer.old) (W.contents writer.new) (header_line image.now)) }
+    ensures err { IfErr result (λ f. StopsIn (header_line image.now) (W.contents writer.old) (W.contents writer.new) f) }
+{
+    line.clear();
+    let count = image.entries().len() as u64;
+    let (kind, number) = (image.kind(), image.number());
+    match push_header(line, kind, number, image.base(), image.place(), count) {
+        Ok(()) => write_line(writer, line.as_slice()),
+        Err(NoMemory) => Err(say_no_memory(writer)),
+    }
+}
+
+/// Writes an image that was checked, line by line.
 fn write_image<W: Write, A: Allocator + Copy>(
     alloc: A,
     writer: &mut W,
-    image: &Image<A>,
+    image: &CheckedImage<'_>,
 ) -> Result<(), Fault>
     ensures ok { OnOk result (Appends (W.contents writer.old) (W.contents writer.new) (image_text image.now)) }
     ensures err { IfErr result (λ f. StopsIn (image_text image.now) (W.contents writer.old) (W.contents writer.new) f) }
 {
     let mut line = Vec::new(alloc);
-    write_header(alloc, writer, image)?;
-    write_entries(writer, &mut line, image.entries())
+    write_checked_header(writer, &mut line, image)?;
+    write_stored_entries(alloc, writer, &mut line, image.entries())
 }
 
 /// Shows bytes as a log.
@@ -270,8 +319,8 @@ fn show_log<W: Write, A: Allocator + Copy>(
     ensures fault { IfErr result (λ f. EndsShow (PrintsLog bytes.now) (W.contents writer.old) (W.contents writer.new) f) }
     ensures only { (says : Result Bytes Reason) → PrintsLog bytes.now says → AgreesWithPrint result says (W.contents writer.old) (W.contents writer.new) }
 {
-    match read_log(alloc, bytes) {
-        Ok(log) => write_log(alloc, writer, log.records.as_slice(), log.ending),
+    match check_log(bytes) {
+        Ok(log) => write_log(alloc, writer, log.records, log.ending),
         Err(refused) => {
             let reason = Reason::from(refused);
             Err(refuse(alloc, writer, Fault::Refused(reason)))
@@ -289,7 +338,7 @@ fn show_image<W: Write, A: Allocator + Copy>(
     ensures fault { IfErr result (λ f. EndsShow (PrintsImage bytes.now) (W.contents writer.old) (W.contents writer.new) f) }
     ensures only { (says : Result Bytes Reason) → PrintsImage bytes.now says → AgreesWithPrint result says (W.contents writer.old) (W.contents writer.new) }
 {
-    match read_image(alloc, bytes) {
+    match check_image(bytes) {
         Ok(image) => write_image(alloc, writer, &image),
         Err(refused) => {
             let reason = Reason::from(refused);

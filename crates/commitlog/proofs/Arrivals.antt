@@ -7,7 +7,8 @@ use Rattle.commitlog.specs.declared.decoding.StoredLog.{StoredLog}
 use Rattle.commitlog.specs.declared.decoding.LogError.TheVariants as refused
 use Rattle.commitlog.specs.declared.streams.ReadError.{ReadError}
 use Rattle.commitlog.specs.declared.streams.ReadError.TheVariants as read_refused
-use Rattle.commitlog.specs.LogReadings.{Reading, NotALog, Damaged, IsReading, reading_of}
+use Rattle.commitlog.specs.LogReadings.{Reading, NotALog, Damaged, IsReading}
+use Rattle.commitlog.specs.StoredLogs.{reading_of}
 use Rattle.commitlog.specs.Streams.{ReadsAs, IsAnswerFrom, TellsFrom}
 use Rattle.commitlog.proofs.Fields.{some_is}
 use Rattle.commitlog.proofs.OneReadings.{one_reading}

@@ -11,9 +11,10 @@ use Rattle.commitlog.specs.declared.decoding.Ending.{Ending}
 use Rattle.commitlog.specs.declared.decoding.LogError.{LogError}
 use Rattle.commitlog.specs.declared.decoding.LogError.TheVariants as refused
 use Rattle.commitlog.specs.LogBytes.{magic, log_header_bytes, first_digest, records_bytes, digest_after}
-use Rattle.commitlog.specs.LogReadings.{Fronts, EndsAfter, StopsAfter, IsDamage, IsHeader, Begins, Reading, Log, NotALog, Damaged, IsReading, IsAnswer, Tells, reading_of}
+use Rattle.commitlog.specs.LogReadings.{Fronts, EndsAfter, StopsAfter, IsDamage, IsHeader, Begins, Reading, Log, NotALog, Damaged, IsReading}
+use Rattle.commitlog.specs.StoredLogs.{AnswersBy, IsAnswer, TellsBy, reading_of}
 use Rattle.commitlog.specs.declared.decoding.StoredLog.{StoredLog}
-use Rattle.commitlog.proofs.OneReadings.{no_log, one_reading}
+use Rattle.commitlog.proofs.OneReadings.{one_reading}
 
 -- the first bytes are the header's
 pub header_is : (v : Version) (h : LogHeader) (bytes : Bytes) → take 8 bytes ≡ magic v → h.catalog ++ h.opening ≡ drop 8 (take 72 bytes) → log_header_bytes v h ≡ take 72 bytes
@@ -41,23 +42,33 @@ pub ends_so : (v : Version) (h : LogHeader) (d : Bytes) (rs : List Record) (e : 
     EndsAfter v d (drop 72 bytes) rs e → IsReading bytes (Log v h rs e)
 ends_so v h d rs e bytes lengths front digest told = (told.0, begins v h d rs told.0 bytes lengths front digest told.1, told.2)
 
-pub stops_so : (A : Type 0) (v : Version) (h : LogHeader) (d : Bytes) (e : LogError) (bytes : Bytes) → IsHeader h → log_header_bytes v h ≡ take 72 bytes → d ≡ sha256 (take 72 bytes) →
-    StopsAfter v d (drop 72 bytes) e → IsAnswer {A = A} bytes (Err e)
-stops_so A v h d refused.NotALog bytes lengths front digest told = absurd told.3
-stops_so A v h d refused.NoMemory bytes lengths front digest told = no_log v h told.0 told.1 bytes (begins v h d told.0 told.1 bytes lengths front digest told.2)
-stops_so A v h d (refused.Damaged i) bytes lengths front digest told =
+-- where records stop
+pub stops_so : {X : Type 0} (reads : X → Reading) (v : Version) (h : LogHeader) (d : Bytes) (e : LogError) (bytes : Bytes) → IsHeader h → log_header_bytes v h ≡ take 72 bytes → d ≡ sha256 (take 72 bytes) →
+    StopsAfter v d (drop 72 bytes) e → AnswersBy reads bytes (Err e)
+stops_so reads v h d refused.NotALog bytes lengths front digest told = absurd told.3
+stops_so reads v h d refused.NoMemory bytes lengths front digest told = absurd told.3
+stops_so reads v h d (refused.Damaged i) bytes lengths front digest told =
     let first : d ≡ first_digest v h = digest ∙ ap sha256 (sym front) in
     let damage : IsDamage v (digest_after (first_digest v h) told.0) i told.1 =
     subst (λ (n : ℕ). IsDamage v (digest_after (first_digest v h) told.0) n told.1) (sym told.3.0)
     (subst (λ (x : Bytes). IsDamage v (digest_after x told.0) (length told.0) told.1) first told.3.1) in
     (v, h, told.0, told.1, begins v h d told.0 told.1 bytes lengths front digest told.2, sym told.3.0, damage)
 
+abbrev failed : {X : Type 0} → LogError → Result X LogError
+failed e = Err e
+
+-- which isn't for want of memory
+pub stops_unlike : {X : Type 0} (v : Version) (d : Bytes) (e : LogError) (bytes : Bytes) → StopsAfter v d bytes e → failed {X = X} e ≡ Err refused.NoMemory → ⊥
+stops_unlike v d refused.NotALog bytes told same = told.3
+stops_unlike v d refused.NoMemory bytes told same = told.3
+stops_unlike v d (refused.Damaged i) bytes told same = cc
+
 -- the one reading is told
-pub tells : {A : Type 0} (bytes : Bytes) (o : Result (StoredLog A) LogError) (r : Reading) → IsAnswer bytes o → IsReading bytes r → Tells o r
-tells bytes (Ok log) r a b = one_reading bytes r (reading_of log) b a
-tells bytes (Err refused.NotALog) r a b = one_reading bytes r NotALog b a
-tells bytes (Err (refused.Damaged i)) r a b = one_reading bytes r (Damaged i) b a
-tells bytes (Err refused.NoMemory) r a b = tt
+pub tells : {X : Type 0} (reads : X → Reading) (bytes : Bytes) (o : Result X LogError) (r : Reading) → AnswersBy reads bytes o → IsReading bytes r → TellsBy reads o r
+tells reads bytes (Ok log) r a b = one_reading bytes r (reads log) b a
+tells reads bytes (Err refused.NotALog) r a b = one_reading bytes r NotALog b a
+tells reads bytes (Err (refused.Damaged i)) r a b = one_reading bytes r (Damaged i) b a
+tells reads bytes (Err refused.NoMemory) r a b = tt
 
 -- and that a text is no log, whatever the memory is
 pub tells_no_log : {A : Type 0} (bytes : Bytes) (o : Result (StoredLog A) LogError) → IsAnswer bytes o → IsReading bytes NotALog → o ≡ Err refused.NotALog

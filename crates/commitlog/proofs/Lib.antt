@@ -12,6 +12,8 @@ pub mod Fields
 pub mod BodyLaws
 pub mod Refusals
 pub mod Wholes
+pub mod Standing
+pub mod Passing
 pub mod Chains
 pub mod Begins
 pub mod OneReadings

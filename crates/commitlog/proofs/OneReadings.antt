@@ -29,11 +29,11 @@ greatest_small One = omega arith
 greatest_small Two = omega arith
 
 -- a record at the front, as it is taken apart
-record At (d : Bytes) (r : Record) (left rest : Bytes) : Type 0 where
-  stated : stated_length rest ≡ length (body r)
-  said : stated_body rest ≡ body r
-  digest : stated_digest rest ≡ next_digest d r
-  size : length rest ≡ 4 + length (body r) + 32 + length left
+pub record At (d : Bytes) (r : Record) (left rest : Bytes) : Type 0 where
+  pub stated : stated_length rest ≡ length (body r)
+  pub said : stated_body rest ≡ body r
+  pub digest : stated_digest rest ≡ next_digest d r
+  pub size : length rest ≡ 4 + length (body r) + 32 + length left
 
 -- behind four bytes, the body, the digest and what is left
 regrouped : (d : Bytes) (r : Record) (left : Bytes) → record_bytes d r ++ left ≡ big_bytes 4 (length (body r)) ++ (body r ++ (next_digest d r ++ left))
@@ -58,7 +58,7 @@ at_text v d r left fits =
       size = omega (arith, length-append (big_bytes 4 n) (body r ++ after), length-bytes_high_first 4 n, length-append (body r) after, length-append (next_digest d r) left, chained);
     }
 
-at : (v : Version) (d : Bytes) (r : Record) (left rest : Bytes) → Fits v r → rest ≡ record_bytes d r ++ left → At d r left rest
+pub at : (v : Version) (d : Bytes) (r : Record) (left rest : Bytes) → Fits v r → rest ≡ record_bytes d r ++ left → At d r left rest
 at v d r left rest fits e = subst (At d r left) (sym (e ∙ regrouped d r left)) (at_text v d r left fits)
 
 -- two records at the front are one

@@ -1,5 +1,5 @@
 -- Bytes that aren't the body of a record.
-use Rattle.std.proofs.Common.{◌≡◌, ◌≤◌, ℕ, inl, inr, refl, length, Option, Some, None, Result, Err, sym, ap, subst, ◌∙◌}
+use Rattle.std.proofs.Common.{◌≡◌, Option, Some, None, Result, Err, sym, ap, subst, ◌∙◌}
 use Rattle.procedure.specs.Bytes.{Bytes}
 use Rattle.commitlog.specs.Records.{Record, IsInRange}
 use Rattle.commitlog.specs.declared.formats.Version.{Version}
@@ -7,7 +7,7 @@ use Rattle.commitlog.specs.declared.bodies.BodyError.{BodyError}
 use Rattle.commitlog.specs.declared.bodies.BodyError.TheVariants as errors
 use Rattle.commitlog.specs.LogBytes.{greatest_value, body, Fits}
 use Rattle.commitlog.specs.BodyReading.{Fails, record_in}
-use Rattle.commitlog.specs.LogReadings.{IsForeign, IsNoBody, IsStop, IsWhole, refused_at}
+use Rattle.commitlog.specs.LogReadings.{IsNoBody}
 use Rattle.commitlog.proofs.Fields.{some_is}
 use Rattle.commitlog.proofs.BodyLaws.{record_again}
 
@@ -33,8 +33,3 @@ failed e = Err e
 
 pub error_is : {X : Type 0} (e f : BodyError) → failed {X = X} e ≡ failed f → e ≡ f
 error_is e f h = cc
-
--- a whole record that is none
-pub stops : (e : BodyError) (v : Version) (d : Bytes) (i : ℕ) (rest : Bytes) → 4 ≤ length rest → IsWhole rest → (e ≡ errors.Malformed → IsForeign v d rest) → IsStop v d i rest (refused_at e i)
-stops errors.Malformed v d i rest long whole foreign = (refl, (long, inr (whole, inl (foreign refl))))
-stops errors.NoMemory v d i rest long whole foreign = tt

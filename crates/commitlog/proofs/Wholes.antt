@@ -1,15 +1,18 @@
 -- A whole record at the front of bytes.
-use Rattle.std.proofs.Common.{◌≡◌, ℕ, ◌+◌, ◌≤◌, ◌++◌, length, drop, Result, Ok, Err, sym, ap, ◌∙◌, append_assoc, arith}
-use Rattle.std.specs.Prelude.{IfOk}
+use Rattle.std.proofs.Common.{◌≡◌, ◌≢◌, ℕ, ◌+◌, ◌≤◌, ◌++◌, inl, inr, length, drop, sym, ap, ◌∙◌, append_assoc, arith}
 use Rattle.std.proofs.lemmas.List.{take-append-drop, drop-drop, length-take, length-drop}
 use Rattle.byteorder.specs.Endian.{big_bytes}
 use Rattle.sha2.specs.Sha256.{sha256}
 use Rattle.procedure.specs.Bytes.{Bytes}
+use Rattle.commitlog.specs.declared.formats.Version.{Version}
 use Rattle.commitlog.specs.Records.{Record}
-use Rattle.commitlog.specs.declared.bodies.BodyError.{BodyError}
 use Rattle.commitlog.specs.LogBytes.{body, next_digest, record_bytes}
-use Rattle.commitlog.specs.LogReadings.{stated_length, stated_body, stated_digest, after_record, IsWhole}
+use Rattle.commitlog.specs.LogReadings.{stated_length, stated_body, stated_digest, after_record, IsBody, IsForeign, IsWhole, StandsFirst}
 use Rattle.commitlog.proofs.Fields.{IsBytes, back_4, front_is}
+
+-- behind the length, a body of so many bytes, and the digest
+pub behind_all : (n : ℕ) (bytes : Bytes) → drop 32 (drop n (drop 4 bytes)) ≡ drop (4 + n + 32) bytes
+behind_all n bytes = drop-drop 32 n (drop 4 bytes) ∙ drop-drop (n + 32) 4 bytes ∙ ap (λ (k : ℕ). drop k bytes) (omega arith)
 
 -- the length, the body, the digest, and what is left
 pub in_pieces : (bytes : Bytes) → IsBytes bytes → IsWhole bytes →
@@ -18,7 +21,7 @@ in_pieces bytes fits whole =
     let long : 4 ≤ length bytes = omega arith in
     let rest = drop 4 bytes in
     let behind = drop (stated_length bytes) rest in
-    let left : drop 32 behind ≡ after_record bytes = drop-drop 32 (stated_length bytes) rest ∙ drop-drop (stated_length bytes + 32) 4 bytes ∙ ap (λ (n : ℕ). drop n bytes) (omega arith) in
+    let left : drop 32 behind ≡ after_record bytes = behind_all (stated_length bytes) bytes in
     sym (take-append-drop 4 bytes)
     ∙ ap (λ (x : Bytes). x ++ rest) (sym (front_is 4 back_4 bytes fits long))
     ∙ ap (λ (x : Bytes). big_bytes 4 (stated_length bytes) ++ x) (sym (take-append-drop (stated_length bytes) rest))
@@ -40,10 +43,15 @@ whole_is d r bytes fits whole text digest =
     ∙ ap (λ (x : Bytes). big_bytes 4 (length (body r)) ++ (body r ++ (x ++ rest))) (sym digest)
     ∙ ap (λ (x : Bytes). big_bytes 4 (length (body r)) ++ x) (sym (append_assoc (body r) (next_digest d r) rest))
 
-pub from_parts : (o : Result (Record × Bytes) BodyError) (d bytes text given : Bytes) → IsBytes bytes → IsWhole bytes → text ≡ stated_body bytes → given ≡ stated_digest bytes →
-    IfOk o (λ x. body x.0 ≡ text) → IfOk o (λ x. x.1 ≡ sha256 (d ++ text)) → IfOk o (λ x. x.1 ≡ given) →
-    IfOk o (λ x. bytes ≡ record_bytes d x.0 ++ after_record bytes)
-from_parts (Ok x) d bytes text given fits whole text_is given_is spelled digest same =
-    let chained : next_digest d x.0 ≡ stated_digest bytes = ap (λ (t : Bytes). sha256 (d ++ t)) spelled ∙ sym digest ∙ same ∙ given_is in
-    whole_is d x.0 bytes fits whole (spelled ∙ text_is) chained
-from_parts (Err e) d bytes text given fits whole text_is given_is spelled digest same = tt
+-- the body and the digest of a whole record, which text and given are
+module _ (v : Version) (d bytes text given after : Bytes) (text_is : text ≡ stated_body bytes) (given_is : given ≡ stated_digest bytes) (digest : after ≡ sha256 (d ++ text)) where
+  pub stands : IsBytes bytes → IsWhole bytes → after ≡ given → IsBody v text → StandsFirst v d after bytes (after_record bytes)
+  stands fits whole same b =
+      let chained : after ≡ next_digest d b.0 = digest ∙ ap (λ (t : Bytes). sha256 (d ++ t)) (sym b.2) in
+      (b.0, b.1, chained, whole_is d b.0 bytes fits whole (b.2 ∙ text_is) (sym chained ∙ same ∙ given_is))
+
+  pub no_body : (IsBody v text → ⊥) → IsForeign v d bytes
+  no_body none = inl (λ r fits same. none (r, fits, same ∙ sym text_is))
+
+  pub other_digest : after ≢ given → IsForeign v d bytes
+  other_digest other = inr (λ same. other (digest ∙ ap (λ (t : Bytes). sha256 (d ++ t)) text_is ∙ sym same ∙ sym given_is))

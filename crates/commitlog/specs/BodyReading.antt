@@ -4,7 +4,7 @@ use Rattle.byteorder.specs.Endian.{big_number}
 use Rattle.procedure.specs.Bytes.{Bytes, Cell}
 use Rattle.phase.specs.declared.phases.Phase.{Phase}
 use Rattle.phase.specs.declared.phases.Phase.TheVariants.{Rest, Prepare, Resolve, Capture, Complete}
-use Rattle.commitlog.specs.Records.{Record, Token, Call}
+use Rattle.commitlog.specs.Records.{Record, Token, Call, IsInRange}
 use Rattle.commitlog.specs.declared.bodies.BodyError.{BodyError}
 use Rattle.commitlog.specs.declared.bodies.BodyError.TheVariants as errors
 
@@ -97,3 +97,20 @@ record_in most [] = None
 record_in most (zero ∷ rest) = token_in rest
 record_in most (suc zero ∷ rest) = call_in most rest
 record_in most (suc (suc b) ∷ rest) = None
+
+-- ---- reading past something, without making it
+
+-- what a function returned, seen by view, is what is left after something that was read; it fails where nothing is
+abbrev pub Passes : {X Y : Type 0} → (Y → Bytes) → Result Y BodyError → Read X → Type 0
+Passes {X} view (Ok rest) read = (x : X) × (read ≡ Some (x, view rest))
+Passes view (Err e) read = read ≡ None
+
+-- the same of so many, one after another
+abbrev pub PassesMany : {X Y : Type 0} → (Y → Bytes) → Result Y BodyError → (Bytes → Read X) → ℕ → Bytes → Type 0
+PassesMany {X} view (Ok rest) one n bytes = (xs : List X) × (many one n bytes ≡ Some (xs, view rest)) × (length xs ≡ n)
+PassesMany view (Err e) one n bytes = many one n bytes ≡ None
+
+-- what was read is a record within its ranges
+abbrev pub IsLawful : Option Record → Type 0
+IsLawful None = ⊥
+IsLawful (Some r) = IsInRange r

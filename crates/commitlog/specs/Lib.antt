@@ -7,6 +7,8 @@ pub mod LogBytes
 pub mod BodyReading
 pub mod LogTexts
 pub mod LogReadings
+pub mod StoredRecords
+pub mod StoredLogs
 pub mod Streams
 pub mod Pieces
 pub mod PieceLaws

@@ -1,6 +1,6 @@
 -- What a text says as a log: its version, its header, the records that stand whole at its front, and what stands after
 -- them. Each text has one reading.
-use Rattle.std.specs.Prelude.{◌≡◌, ◌≢◌, ◌⊎◌, ◌≤◌, ◌<◌, ◌+◌, ℕ, List, [], ◌∷◌, ◌++◌, length, take, drop, Result, Ok, Err}
+use Rattle.std.specs.Prelude.{◌≡◌, ◌≢◌, ◌⊎◌, ◌≤◌, ◌<◌, ◌+◌, ℕ, List, [], ◌∷◌, ◌++◌, length, take, drop}
 use Rattle.std.specs.List.{AllByRecursion}
 use Rattle.byteorder.specs.Endian.{big_number}
 use Rattle.sha2.specs.Sha256.{sha256}
@@ -10,13 +10,10 @@ use Rattle.commitlog.specs.LogBytes.{Fits, body, digest_after, first_digest, gre
 use Rattle.commitlog.specs.declared.limits.TheConstants.{LOG_RECORDS, HEADER_BYTES}
 use Rattle.commitlog.specs.declared.formats.Version.{Version}
 use Rattle.commitlog.specs.declared.formats.LogHeader.{LogHeader}
-use Rattle.commitlog.specs.declared.bodies.BodyError.{BodyError}
-use Rattle.commitlog.specs.declared.bodies.BodyError.TheVariants as body_error
-use Rattle.commitlog.specs.declared.decoding.Front.{Front}
-use Rattle.commitlog.specs.declared.decoding.Front.TheVariants as front
-use Rattle.commitlog.specs.declared.decoding.StoredLog.{StoredLog}
-use Rattle.commitlog.specs.declared.decoding.Next.{Next}
-use Rattle.commitlog.specs.declared.decoding.Next.TheVariants as next
+use Rattle.commitlog.specs.declared.checking.Front.{Front}
+use Rattle.commitlog.specs.declared.checking.Front.TheVariants as front
+use Rattle.commitlog.specs.declared.checking.Next.{Next}
+use Rattle.commitlog.specs.declared.checking.Next.TheVariants as next
 use Rattle.commitlog.specs.declared.decoding.LogError.{LogError}
 use Rattle.commitlog.specs.declared.decoding.LogError.TheVariants as refused
 use Rattle.commitlog.specs.declared.decoding.Ending.{Ending}
@@ -50,6 +47,10 @@ IsTorn v rest = (0 < length rest) × ((length rest < 4) ⊎ ((stated_length rest
 abbrev pub IsNoBody : Version → Bytes → Type 0
 IsNoBody v text = (r : Record) → Fits v r → body r ≢ text
 
+-- it is that of one
+abbrev pub IsBody : Version → Bytes → Type 0
+IsBody v text = (r : Record) × Fits v r × (body r ≡ text)
+
 -- they are no record behind the digest d: the body is that of none, or the digest is another
 abbrev pub IsNoRecord : Version → Bytes → Bytes → Bytes → Type 0
 IsNoRecord v d text digest = IsNoBody v text ⊎ (digest ≢ sha256 (d ++ text))
@@ -61,22 +62,9 @@ IsForeign v d rest = IsNoRecord v d (stated_body rest) (stated_digest rest)
 abbrev pub IsDamage : Version → Bytes → ℕ → Bytes → Type 0
 IsDamage v d i rest = (4 ≤ length rest) × ((greatest_body v < stated_length rest) ⊎ (IsWhole rest × (IsForeign v d rest ⊎ (i ≡ LOG_RECORDS))))
 
--- the stated digest isn't that of the body after the digest d
-abbrev pub HasOtherDigest : Bytes → Bytes → Type 0
-HasOtherDigest d rest = stated_digest rest ≢ sha256 (d ++ stated_body rest)
-
--- damage that takes no memory to see
-abbrev pub IsPlainDamage : Version → Bytes → ℕ → Bytes → Type 0
-IsPlainDamage v d i rest = (4 ≤ length rest) × ((greatest_body v < stated_length rest) ⊎ (IsWhole rest × (HasOtherDigest d rest ⊎ (i ≡ LOG_RECORDS))))
-
 -- the body begins as that of a call
 abbrev pub IsOfCall : Bytes → Type 0
 IsOfCall text = take 1 text ≡ 1 ∷ []
-
--- why a body gives no record at a place, as a refusal of the log
-abbrev pub refused_at : BodyError → ℕ → LogError
-refused_at body_error.Malformed i = refused.Damaged i
-refused_at body_error.NoMemory i = refused.NoMemory
 
 abbrev pub Ends : Version → Bytes → Ending → Type 0
 Ends v rest Clean = rest ≡ []
@@ -89,17 +77,20 @@ IsFront v rest front.Torn = IsTorn v rest
 IsFront v rest front.TooLong = (4 ≤ length rest) × (greatest_body v < stated_length rest)
 IsFront v rest (front.Whole n) = (n ≡ stated_length rest) × (n ≤ greatest_body v) × IsWhole rest
 
+-- a record that has this digest stands at the front behind the digest d, and then what is left
+abbrev pub StandsFirst : Version → Bytes → Bytes → Bytes → Bytes → Type 0
+StandsFirst v d after rest left = (r : Record) × Fits v r × (after ≡ next_digest d r) × (rest ≡ record_bytes d r ++ left)
+
 -- what comes at place i behind the digest d
-abbrev pub IsNext : {A : Type 0} → Version → Bytes → ℕ → Bytes → Next A → Type 0
+abbrev pub IsNext : Version → Bytes → ℕ → Bytes → Next → Type 0
 IsNext v d i rest (next.End e) = Ends v rest e
-IsNext v d i rest (next.Entry r after n) =
-    (i < LOG_RECORDS) × Fits v r × (after ≡ next_digest d r) × (rest ≡ record_bytes d r ++ drop n rest) × (n ≤ length rest) × (0 < n)
+IsNext v d i rest (next.Entry after n) = (i < LOG_RECORDS) × StandsFirst v d after rest (drop n rest) × (n ≤ length rest) × (0 < n)
 
 -- why nothing more is read there
 abbrev pub IsStop : Version → Bytes → ℕ → Bytes → LogError → Type 0
 IsStop v d i rest refused.NotALog = ⊥
 IsStop v d i rest (refused.Damaged j) = (j ≡ i) × IsDamage v d i rest
-IsStop v d i rest refused.NoMemory = Unit {0}
+IsStop v d i rest refused.NoMemory = ⊥
 
 -- the bytes begin with these records, the first behind the digest d
 pub record Fronts (v : Version) (d : Bytes) (rs : List Record) (rest all : Bytes) : Type 0 where
@@ -110,6 +101,10 @@ pub record Fronts (v : Version) (d : Bytes) (rs : List Record) (rest all : Bytes
 -- they end so after them
 abbrev pub EndsAfter : Version → Bytes → Bytes → List Record → Ending → Type 0
 EndsAfter v d all rs e = (rest : Bytes) × Fronts v d rs rest all × Ends v rest e
+
+-- so many stand there, and the bytes end so after them
+abbrev pub EndsAfterSome : Version → Bytes → Bytes → ℕ → Ending → Type 0
+EndsAfterSome v d all n e = (rs : List Record) × (length rs ≡ n) × EndsAfter v d all rs e
 
 -- or what comes after some is no record
 abbrev pub StopsAfter : Version → Bytes → Bytes → LogError → Type 0
@@ -139,23 +134,6 @@ IsReading text NotALog = (length text < HEADER_BYTES) ⊎ ((v : Version) → tak
 IsReading text (Damaged i) =
     (v : Version) × (h : LogHeader) × (rs : List Record) × (rest : Bytes) ×
     Begins v h rs rest text × (length rs ≡ i) × IsDamage v (digest_after (first_digest v h) rs) i rest
-
-abbrev pub reading_of : {A : Type 0} → StoredLog A → Reading
-reading_of log = Log log.version log.header log.records log.ending
-
--- what was answered is a reading of the text; what is no log takes no memory
-abbrev pub IsAnswer : {A : Type 0} → Bytes → Result (StoredLog A) LogError → Type 0
-IsAnswer text (Ok log) = IsReading text (reading_of log)
-IsAnswer text (Err refused.NotALog) = IsReading text NotALog
-IsAnswer text (Err (refused.Damaged i)) = IsReading text (Damaged i)
-IsAnswer text (Err refused.NoMemory) = IsReading text NotALog → ⊥
-
--- it is this one, unless memory ran out
-abbrev pub Tells : {A : Type 0} → Result (StoredLog A) LogError → Reading → Type 0
-Tells (Ok log) r = r ≡ reading_of log
-Tells (Err refused.NotALog) r = r ≡ NotALog
-Tells (Err (refused.Damaged i)) r = r ≡ Damaged i
-Tells (Err refused.NoMemory) r = Unit {0}
 
 -- each text has at most one
 abbrev pub OneReading : Type 0

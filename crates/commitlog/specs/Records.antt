@@ -21,8 +21,11 @@ abbrev pub record_of : {A : Type 0} → Entry A → Record
 record_of (entry.Token p n) = Token p n
 record_of (entry.Call o call r) = call_of call o r
 
+-- the ranges of a call: its session, its procedure, how many arguments, its outcome, and how many replies
+abbrev pub AreInRange : (session procedure arguments outcome replies : ℕ) → Type 0
+AreInRange s p arguments o replies = (s < SESSIONS) × (p < PROCEDURES) × (arguments ≤ ARGUMENTS) × IsOutcome o × (replies ≤ REPLIES)
+
 -- the ranges of a record
 abbrev pub IsInRange : Record → Type 0
 IsInRange (Token p n) = Unit {0}
-IsInRange (Call s n p args o r) =
-    (s < SESSIONS) × (p < PROCEDURES) × (length args ≤ ARGUMENTS) × IsOutcome o × (length r ≤ REPLIES)
+IsInRange (Call s n p args o r) = AreInRange s p (length args) o (length r)

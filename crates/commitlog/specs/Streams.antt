@@ -4,7 +4,8 @@ use Rattle.std.specs.Io.KnownBytes.{Consumes, IsAtEnd}
 use Rattle.procedure.specs.Bytes.{Bytes}
 use Rattle.procedure.specs.declared.streams.Unread.{Unread}
 use Rattle.procedure.specs.declared.streams.Unread.TheVariants as unread
-use Rattle.commitlog.specs.LogReadings.{Reading, NotALog, Damaged, IsReading, reading_of}
+use Rattle.commitlog.specs.LogReadings.{Reading, NotALog, Damaged, IsReading}
+use Rattle.commitlog.specs.StoredLogs.{reading_of}
 use Rattle.commitlog.specs.LogTexts.{log_error_text}
 use Rattle.commitlog.specs.declared.decoding.StoredLog.{StoredLog}
 use Rattle.commitlog.specs.declared.decoding.LogError.TheVariants as refused

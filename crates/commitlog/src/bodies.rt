@@ -44,7 +44,7 @@ impl<T: Drop> From<AllocFailed<T>> for BodyError {
     }
 }
 
-fn byte_of(bytes: &[u8]) -> Result<(u8, &[u8]), BodyError>
+pub(crate) fn byte_of(bytes: &[u8]) -> Result<(u8, &[u8]), BodyError>
     ensures value { Gives (λ x. (x.0, x.1.now)) result (byte_in bytes.now) }
     ensures malformed { IfErr result (λ e. e ≡ errors.Malformed) }
 {
@@ -54,7 +54,7 @@ fn byte_of(bytes: &[u8]) -> Result<(u8, &[u8]), BodyError>
     }
 }
 
-fn u16_of(bytes: &[u8]) -> Result<(u16, &[u8]), BodyError>
+pub(crate) fn u16_of(bytes: &[u8]) -> Result<(u16, &[u8]), BodyError>
     ensures value { Gives (λ x. (x.0, x.1.now)) result (number_in 2 bytes.now) }
     ensures malformed { IfErr result (λ e. e ≡ errors.Malformed) }
 {
@@ -64,7 +64,7 @@ fn u16_of(bytes: &[u8]) -> Result<(u16, &[u8]), BodyError>
     Ok((BigEndian::read_u16(bytes), &bytes[2..]))
 }
 
-fn u64_of(bytes: &[u8]) -> Result<(u64, &[u8]), BodyError>
+pub(crate) fn u64_of(bytes: &[u8]) -> Result<(u64, &[u8]), BodyError>
     ensures value { Gives (λ x. (x.0, x.1.now)) result (number_in 8 bytes.now) }
     ensures malformed { IfErr result (λ e. e ≡ errors.Malformed) }
 {
@@ -176,7 +176,7 @@ fn replies_of<'a, A: Allocator + Clone>(
     Ok((Sequence::new(cells), rest))
 }
 
-fn phase_of(code: u8) -> Result<Phase, BodyError>
+pub(crate) fn phase_of(code: u8) -> Result<Phase, BodyError>
     ensures value { Gives (λ p. p) result (phase_in code) }
     ensures malformed { IfErr result (λ e. e ≡ errors.Malformed) }
 {

@@ -10,9 +10,11 @@ mod bodies;
 #[cfg(test)]
 mod body_tests;
 mod body_writing;
+pub mod checking;
 pub mod decoding;
 pub mod encoding;
 pub mod formats;
+mod forms;
 pub mod laws;
 pub mod limits;
 #[cfg(test)]
@@ -21,16 +23,19 @@ pub mod log_writer;
 pub mod logs;
 mod pieces;
 pub mod records;
+pub mod stored_records;
 #[cfg(test)]
 mod stream_tests;
 pub mod streams;
 #[cfg(test)]
 mod tests;
 
+pub use checking::{CheckedLog, check_log};
 pub use decoding::{Ending, LogError, StoredLog, read_log};
 pub use encoding::{EncodeError, encode, encode_v1};
 pub use formats::{LogHeader, Version};
 pub use log_writer::LogWriter;
 pub use logs::{Log, PushError};
 pub use records::{Entry, Record};
+pub use stored_records::StoredRecords;
 pub use streams::{ReadError, WriteError, encode_to, read_log_from};

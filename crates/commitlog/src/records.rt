@@ -1,7 +1,7 @@
 //! The records of a commit log.
 
 ghost use Rattle.std.specs.Prelude.{◌≡◌, ◌↔◌, IfSome, IsSome, IsTrue};
-ghost use Rattle.commitlog.specs.Records.{Call, Token, call_of, record_of, IsInRange};
+ghost use Rattle.commitlog.specs.Records.{AreInRange, Call, Token, call_of, record_of, IsInRange};
 
 use crate::limits::REPLIES;
 use phase::Phase;
@@ -45,18 +45,23 @@ impl<A: Allocator> Model for Record<A> {
     ghost invariant = { λ r. IsInRange (record_of r.entry) };
 }
 
-fn is_in_range<A: Allocator>(
-    call: &Call<A>,
+/// Whether the numbers of a call are within the ranges of the log: its session, its procedure, how many
+/// arguments it has, its outcome, and how many replies.
+#[inline(always)]
+pub(crate) fn are_in_range(
+    session: u16,
+    procedure: u16,
+    arguments: usize,
     outcome: u8,
-    replies: &Sequence<Option<Value<A>>, A>,
+    replies: usize,
 ) -> bool
-    ensures { IsTrue result ↔ IsInRange (call_of call.now outcome replies.now) }
+    ensures { IsTrue result ↔ AreInRange session procedure arguments outcome replies }
 {
-    call.session < SESSIONS
-        && usize::from(call.procedure) < PROCEDURES
-        && call.args.len() <= usize::from(ARGUMENTS)
+    session < SESSIONS
+        && usize::from(procedure) < PROCEDURES
+        && arguments <= usize::from(ARGUMENTS)
         && (outcome <= NO_VALUE || outcome >= FIRST_ABORT)
-        && replies.len() <= REPLIES
+        && replies <= REPLIES
 }
 
 impl<A: Allocator> Record<A> {
@@ -75,7 +80,13 @@ impl<A: Allocator> Record<A> {
         ensures value { IfSome result (λ r. r ≡ call_of call outcome replies) }
         ensures ranges { IsSome result ↔ IsInRange (call_of call outcome replies) }
     {
-        if is_in_range(&call, outcome, &replies) {
+        if are_in_range(
+            call.session,
+            call.procedure,
+            call.args.len(),
+            outcome,
+            replies.len(),
+        ) {
             Some(Record {
                 entry: Entry::Call {
                     call,

@@ -8,6 +8,8 @@ pub mod Merged
 pub mod Digests
 pub mod Blocks
 pub mod FrontLoops
+pub mod PieceLists
+pub mod PieceChecks
 pub mod FrontEntries
 pub mod FrontBlocks
 pub mod Readings

@@ -7,7 +7,7 @@ use Rattle.std.proofs.lemmas.Bool.{eqb-true}
 use Rattle.sha2.specs.Sha256.{sha256}
 use Rattle.procedure.specs.Bytes.{Bytes}
 use Rattle.procedure.specs.declared.limits.TheConstants.{VALUE_BYTES}
-use Rattle.image.specs.Images.{Entry, Image}
+use Rattle.image.specs.Images.{Entry, Image, IsLawfulImage}
 use Rattle.image.specs.ImageBytes.{IsImageSpelling, block_count}
 use Rattle.image.specs.Fronts.{blocks_at, entries_at}
 use Rattle.image.specs.Readings.{IsBad, Judges, alone, alone_or_bad, alone_or_refused, first_entries, image_at, second_entries}
@@ -229,24 +229,27 @@ whole_second b es second fits read =
     let t = blocks_take (block_count (stated b)) 0 (stated b) (sha256 (take 37 b)) (drop 69 b) (es, []) (IsBytes-drop 69 b fits) p.1 in
     inr (second, p.0, (es, [], t.1, t.2, t.0.parts))
 
-pub first_judged : (b : Bytes) (r : Answer) → IsFirst b → IsBytes b → Judges VALUE_BYTES_V1 b (first_entries b) r → (r ≡ Err refused.NoMemory) ⊎ IsAnswer b r
-first_judged b (Ok i) first fits (es, read, at, lawful) = inr (inl (lawful, first_back b es i first fits read at))
-first_judged b (Err e) first fits (inl memory) = inl (ap (λ (x : ReadError). Err x) memory)
-first_judged b (Err e) first fits (inr (inl read)) = inr (first_fails b e first read)
-first_judged b (Err e) first fits (inr (inr (is, es, read, bad))) =
-    inr (subst (λ (x : ReadError). Refuses x b) (sym is) (inl (first, (first_passed b es read).0), bad_first b es first read bad))
+pub first_judged : (b : Bytes) (r : Answer) → IsFirst b → IsBytes b → Judges VALUE_BYTES_V1 b (first_entries b) r → IsAnswer b r
+first_judged b (Ok i) first fits (es, read, at, lawful) = inl (lawful, first_back b es i first fits read at)
+first_judged b (Err e) first fits (inl read) = first_fails b e first read
+first_judged b (Err e) first fits (inr (is, es, read, bad)) =
+    subst (λ (x : ReadError). Refuses x b) (sym is) (inl (first, (first_passed b es read).0), bad_first b es first read bad)
 
-pub second_judged : (b : Bytes) (r : Answer) → IsSecond b → IsBytes b → Judges VALUE_BYTES b (second_entries b) r → (r ≡ Err refused.NoMemory) ⊎ IsAnswer b r
-second_judged b (Ok i) second fits (es, read, at, lawful) = inr (inr (lawful, second_back b es i second fits read at))
-second_judged b (Err e) second fits (inl memory) = inl (ap (λ (x : ReadError). Err x) memory)
-second_judged b (Err e) second fits (inr (inl read)) = inr (second_fails b e second fits read)
-second_judged b (Err e) second fits (inr (inr (is, es, read, bad))) =
-    inr (subst (λ (x : ReadError). Refuses x b) (sym is) (whole_second b es second fits read, bad_second b es second read bad))
+pub second_judged : (b : Bytes) (r : Answer) → IsSecond b → IsBytes b → Judges VALUE_BYTES b (second_entries b) r → IsAnswer b r
+second_judged b (Ok i) second fits (es, read, at, lawful) = inr (lawful, second_back b es i second fits read at)
+second_judged b (Err e) second fits (inl read) = second_fails b e second fits read
+second_judged b (Err e) second fits (inr (is, es, read, bad)) =
+    subst (λ (x : ReadError). Refuses x b) (sym is) (whole_second b es second fits read, bad_second b es second read bad)
 
--- an answer that was given is that of the bytes
-pub is_exact : (b : Bytes) (r a : Answer) → IsBytes b → (r ≡ Err refused.NoMemory) ⊎ IsAnswer b r → IsAnswer b a → (r ≡ a) ⊎ (r ≡ Err refused.NoMemory)
-is_exact b r a fits (inl memory) h = inr memory
-is_exact b r a fits (inr given) h = inl (one_answer b r a fits given h)
+-- bytes that spell an image aren't refused as none
+pub is_an_image : (b : Bytes) (i : Image) → IsAnswer b (Ok i) → Refuses refused.NotAnImage b → ⊥
+is_an_image b i (inl v) (no_1, no_2) = no_1 (first_again i b v).first
+is_an_image b i (inr w) (no_1, no_2) = no_2 (second_again i b w).second
+
+-- an image that bytes spell is lawful
+pub lawful_answer : (b : Bytes) (i : Image) → IsAnswer b (Ok i) → IsLawfulImage i
+lawful_answer b i (inl first) = first.0.lawful
+lawful_answer b i (inr second) = second.0.lawful
 
 -- no two images have the same bytes
 pub one_image : (i j : Image) (b : Bytes) → IsImageSpelling i b → IsImageSpelling j b → i ≡ j

@@ -1,5 +1,5 @@
 -- Reading from left to right: what stands at the front of a text, lawful or not, and what stands behind it.
-use Rattle.std.specs.Prelude.{◌≡◌, ◌⊎◌, ℕ, zero, suc, ◌-◌, min, List, [], ◌∷◌, ◌++◌, length, take, drop, Option, Some, None, Ok, Err, nat_lt, nat_eq, if◌then◌else◌}
+use Rattle.std.specs.Prelude.{◌≡◌, ℕ, zero, suc, ◌-◌, min, List, [], ◌∷◌, ◌++◌, length, take, drop, Option, Some, None, Ok, Err, nat_lt, nat_eq, if◌then◌else◌}
 use Rattle.std.specs.declared.result.Result.{Result}
 use Rattle.std.specs.Cmp.Lexicographic.{pointwise}
 use Rattle.byteorder.specs.Endian.{big_number}
@@ -54,13 +54,18 @@ block_at before n b = do
   if pointwise nat_eq stated.0 (sha256 (before ++ take (length b - length es.1) b)) then Some (es.0, (sha256 (before ++ take (length b - length es.1) b), stated.1)) else None
 
 -- with the entries that came before
-abbrev pub pieces_after : {R : Type 0} → List Entry → Option (List Entry × R) → Option (List Entry × R)
-pieces_after front None = None
-pieces_after front (Some x) = Some (front ++ x.0, x.1)
-
 abbrev pub after_ok : List Entry → Result (List Entry × Bytes) ReadError → Result (List Entry × Bytes) ReadError
 after_ok front (Err e) = Err e
 after_ok front (Ok x) = Ok (front ++ x.0, x.1)
+
+-- what stands behind something that was read
+abbrev pub behind : {X R : Type 0} → Option (X × R) → Option R
+behind None = None
+behind (Some x) = Some x.1
+
+abbrev pub behind_ok : Result (List Entry × Bytes) ReadError → Result Bytes ReadError
+behind_ok (Err e) = Err e
+behind_ok (Ok x) = Ok x.1
 
 -- a block that is there, and what is made of what stands behind it
 abbrev pub block_then : ℕ → Option (List Entry × (Bytes × Bytes)) → (Bytes → Bytes → Result (List Entry × Bytes) ReadError) → Result (List Entry × Bytes) ReadError
@@ -72,7 +77,7 @@ unfoldable pub blocks_at : ℕ → ℕ → ℕ → Bytes → Bytes → Result (L
 blocks_at zero j left before b = Ok ([], b)
 blocks_at (suc m) j left before b = block_then (suc j) (block_at before (min left BLOCK) b) (λ digest rest. blocks_at m (suc j) (left - BLOCK) digest rest)
 
--- what a call answers is what reading gives, want of memory apart
+-- what a call answers is what reading gives
 abbrev pub Gives : {X Y : Type 0} → (X → Y) → Result X ReadError → Result Y ReadError → Type 0
 Gives view (Ok x) read = read ≡ Ok (view x)
-Gives view (Err e) read = (read ≡ Err e) ⊎ (e ≡ refused.NoMemory)
+Gives view (Err e) read = read ≡ Err e

@@ -8,6 +8,7 @@ pub mod Layers
 pub mod EntryBytes
 pub mod ImageBytes
 pub mod Fronts
+pub mod Pieces
 pub mod Refusals
 pub mod Readings
 pub mod Laws

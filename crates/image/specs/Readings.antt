@@ -56,4 +56,4 @@ IsBad most b es = (i : Image) → image_at b es ≡ Some i → IsWritable most i
 -- an answer to bytes whose entries are read so: the lawful image that they make, or else a refusal
 abbrev pub Judges : ℕ → Bytes → Result (List Entry) ReadError → Result Image ReadError → Type 0
 Judges most b read (Ok i) = (es : List Entry) × (read ≡ Ok es) × (image_at b es ≡ Some i) × IsWritable most i
-Judges most b read (Err e) = (e ≡ refused.NoMemory) ⊎ ((read ≡ Err e) ⊎ ((e ≡ refused.BadForm) × (es : List Entry) × (read ≡ Ok es) × IsBad most b es))
+Judges most b read (Err e) = (read ≡ Err e) ⊎ ((e ≡ refused.BadForm) × (es : List Entry) × (read ≡ Ok es) × IsBad most b es)

@@ -1,17 +1,15 @@
 //! What stands at the front of a text.
 
-ghost use Rattle.std.specs.Prelude.{◌≡◌, ◌++◌, IfOk, option_map};
+ghost use Rattle.std.specs.Prelude.{◌≡◌, ◌++◌, option_map};
 ghost use Rattle.sha2.specs.Sha256.{sha256};
 ghost use Rattle.image.specs.Fronts as spec;
-ghost use Rattle.image.specs.Fronts.{Gives};
+ghost use Rattle.image.specs.Fronts.{Gives, behind, behind_ok};
 ghost use Rattle.image.specs.ImageBytes.{block_count};
 
 use crate::errors::ReadError;
 use crate::limits::BLOCK;
 use byteorder::{BigEndian, ByteOrder};
-use procedure::NoMemory;
 use procedure::bytes::chained_digest;
-use std::alloc::Allocator;
 use std::marker::Model;
 
 /// An entry as pieces of a text, lawful or not.
@@ -65,7 +63,7 @@ fn cell_at(bytes: &[u8]) -> Option<(Option<&[u8]>, &[u8])>
 }
 
 #[tactic(auto, unfolding(crate::specs::Fronts::entry_at))]
-fn entry_at<'a>(bytes: &'a [u8]) -> Option<(Piece<'a>, &'a [u8])>
+pub(crate) fn entry_at<'a>(bytes: &'a [u8]) -> Option<(Piece<'a>, &'a [u8])>
     ensures { option_map (λ p. (p.0, p.1.now)) result ≡ spec.entry_at bytes.now }
 {
     let (key, rest) = key_at(bytes)?;
@@ -73,59 +71,36 @@ fn entry_at<'a>(bytes: &'a [u8]) -> Option<(Piece<'a>, &'a [u8])>
     Some((Piece { key, cell }, rest))
 }
 
-/// So many entries, which are put after those found before, and what stands after them; None where
-/// they aren't wholly there, or a tag is neither 0 nor 1.
-pub(crate) fn entries_at<'a, A: Allocator>(
-    found: &mut Vec<Piece<'a>, A>,
-    count: usize,
-    bytes: &'a [u8],
-) -> Result<Option<&'a [u8]>, NoMemory>
-    ensures { IfOk result (λ rest. option_map (λ r. (found.new.items, r.now)) rest ≡ spec.pieces_after found.old.items (spec.entries_at count bytes.now)) }
+/// What stands after so many entries; None where they aren't wholly there, or a tag is neither 0 nor 1.
+pub(crate) fn past_entries(count: usize, bytes: &[u8]) -> Option<&[u8]>
+    ensures { option_map (λ r. r.now) result ≡ behind (spec.entries_at count bytes.now) }
 {
     let mut rest = bytes;
     for _ in 0..count {
-        let Some((piece, after)) = entry_at(rest) else {
-            return Ok(None);
-        };
-        found.push(piece)?;
+        let (_piece, after) = entry_at(rest)?;
         rest = after;
     }
-    Ok(Some(rest))
+    Some(rest)
 }
 
-/// A block of `count` entries, put after those found before, and what follows it; None where it
-/// isn't wholly there, or a tag is neither 0 nor 1, or the digest is another. The digest before the
-/// block becomes the block's.
+/// What stands after a block of `count` entries; None where it isn't wholly there, or a tag is neither 0
+/// nor 1, or the digest is another. The digest before the block becomes the block's.
 #[tactic(auto, unfolding(crate::specs::Fronts::block_at))]
-fn block_at<'a, A: Allocator>(
-    found: &mut Vec<Piece<'a>, A>,
-    digest: &mut [u8; 32],
-    count: usize,
-    bytes: &'a [u8],
-) -> Result<Option<&'a [u8]>, NoMemory>
-    ensures { IfOk result (λ rest. option_map (λ r. (found.new.items, (digest.new, r.now))) rest ≡ spec.pieces_after found.old.items (spec.block_at digest.old count bytes.now)) }
+fn past_block<'a>(digest: &mut [u8; 32], count: usize, bytes: &'a [u8]) -> Option<&'a [u8]>
+    ensures { option_map (λ r. (digest.new, r.now)) result ≡ behind (spec.block_at digest.old count bytes.now) }
 {
-    let Some(behind) = entries_at(found, count, bytes)? else {
-        return Ok(None);
-    };
-    let Some((stated, rest)) = parted(behind, 32) else {
-        return Ok(None);
-    };
-    *digest = chained_digest(digest, &bytes[..bytes.len() - behind.len()]);
+    let left = past_entries(count, bytes)?;
+    let (stated, rest) = parted(left, 32)?;
+    *digest = chained_digest(digest, &bytes[..bytes.len() - left.len()]);
     if stated != digest.as_slice() {
-        return Ok(None);
+        return None;
     }
-    Ok(Some(rest))
+    Some(rest)
 }
 
-/// So many entries in blocks, put after those found before, and what stands after them.
-pub(crate) fn blocks_at<'a, A: Allocator>(
-    found: &mut Vec<Piece<'a>, A>,
-    digest: [u8; 32],
-    count: usize,
-    bytes: &'a [u8],
-) -> Result<&'a [u8], ReadError>
-    ensures { Gives (λ rest. (found.new.items, rest.now)) result (spec.after_ok found.old.items (spec.blocks_at (block_count count) 0 count digest bytes.now)) }
+/// What stands after so many entries in blocks.
+pub(crate) fn past_blocks(digest: [u8; 32], count: usize, bytes: &[u8]) -> Result<&[u8], ReadError>
+    ensures { Gives (λ rest. rest.now) result (behind_ok (spec.blocks_at (block_count count) 0 count digest bytes.now)) }
 {
     let mut digest = digest;
     let mut rest = bytes;
@@ -133,7 +108,7 @@ pub(crate) fn blocks_at<'a, A: Allocator>(
     let mut block = 0;
     while left > 0 {
         block += 1;
-        match block_at(found, &mut digest, left.min(BLOCK), rest)? {
+        match past_block(&mut digest, left.min(BLOCK), rest) {
             None => return Err(ReadError::BadBlock(block)),
             Some(behind) => rest = behind,
         }

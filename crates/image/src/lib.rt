@@ -8,6 +8,7 @@
 
 #[cfg(test)]
 mod byte_tests;
+pub mod checking;
 pub mod entries;
 pub mod errors;
 #[cfg(test)]
@@ -20,14 +21,17 @@ mod layers;
 pub mod limits;
 pub mod mergers;
 pub mod merges;
+mod pieces;
 pub mod reading;
 pub mod sealing;
+pub mod stored_entries;
 #[cfg(test)]
 mod stream_tests;
 pub mod streams;
 #[cfg(test)]
 mod tests;
 
+pub use checking::{CheckedImage, check_image};
 pub use entries::Entry;
 pub use errors::{ReadError, SealError};
 pub use headers::{AssembleError, Header, NO_ENTRIES, assemble, link};
@@ -36,4 +40,5 @@ pub use mergers::Merger;
 pub use merges::{MergeError, merge};
 pub use reading::read_image;
 pub use sealing::{seal, seal_v1};
+pub use stored_entries::StoredEntries;
 pub use streams::{ReadFromError, WriteError, read_from, seal_to};

@@ -103,13 +103,12 @@ module _ (c : List Procedure) (i : Image) (v : Version) (h : LogHeader) (l : Lis
   audit_of_log_is (Err refused.WrongCatalog) a = absurd a
   audit_of_log_is (Err refused.WrongOpening) a = absurd a
 
-  pub audits_of_log : (t : Table) (all : List Record) (torn : Bool) (x : Result Audited AuditError) → t ≡ table_of i → all ≡ l → torn ≡ is_torn e → AreAudited c t all torn x →
+  pub audits_of_log : (t : Table) (torn : Bool) (x : Result Audited AuditError) → t ≡ table_of i → torn ≡ is_torn e → AreAudited c t l torn x →
       OfLog c i v h l e x ⊎ (x ≡ Err refused.NoMemory)
-  audits_of_log t all torn x table_is all_is torn_is a =
+  audits_of_log t torn x table_is torn_is a =
       audit_of_log_is x
       (subst (λ (u : Table). AreAudited c u l (is_torn e) x) table_is
-      (subst (λ (m : List Record). AreAudited c t m (is_torn e) x) all_is
-      (subst (λ (b : Bool). AreAudited c t all b x) torn_is a)))
+      (subst (λ (b : Bool). AreAudited c t l b x) torn_is a))
 
 -- ---- nothing else
 

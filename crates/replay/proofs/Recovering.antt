@@ -40,14 +40,13 @@ module _ (c : List Procedure) (i : Image) (v : Version) (h : LogHeader) (l : Lis
   run_of_log (Err refused.NotALog) ran = absurd ran
   run_of_log (Err (refused.Damaged j)) ran = absurd ran
 
-  pub runs_of_log : (t : Table) (k : ℕ) (all : List Record) (torn : Bool) (x : Result Recovery RecoverError) → t ≡ table_of i → k ≡ i.place → all ≡ l → torn ≡ is_torn e → RunAgain c t k all torn x →
+  pub runs_of_log : (t : Table) (k : ℕ) (torn : Bool) (x : Result Recovery RecoverError) → t ≡ table_of i → k ≡ i.place → torn ≡ is_torn e → RunAgain c t k l torn x →
       OfLog c i v h l e x ⊎ (x ≡ Err refused.NoMemory)
-  runs_of_log t k all torn x table_is place_is all_is torn_is ran =
+  runs_of_log t k torn x table_is place_is torn_is ran =
       run_of_log x
       (subst (λ (u : Table). RunAgain c u i.place l (is_torn e) x) table_is
       (subst (λ (n : ℕ). RunAgain c t n l (is_torn e) x) place_is
-      (subst (λ (m : List Record). RunAgain c t k m (is_torn e) x) all_is
-      (subst (λ (b : Bool). RunAgain c t k all b x) torn_is ran))))
+      (subst (λ (b : Bool). RunAgain c t k l b x) torn_is ran)))
 
 -- ---- nothing else
 

@@ -1,12 +1,15 @@
 -- Records that are run again, one after another.
-use Rattle.std.proofs.Common.{◌≡◌, ℕ, ◌+◌, ◌≤◌, ◌<◌, Bool, List, [], ◌∷◌, ◌++◌, length, drop, Ok, Err, append_assoc, refl, sym, ap, ◌∙◌, subst, arith}
-use Rattle.std.proofs.lemmas.List.{append-nil, drop_all, drop-append-le, length-append, length-drop}
+use Rattle.std.proofs.Common.{◌≡◌, ℕ, ◌+◌, ◌≤◌, ◌<◌, Bool, List, [], ◌∷◌, ◌++◌, length, take, drop, Ok, Err, Some, None, append_assoc, refl, sym, ap, ◌∙◌, subst, arith}
+use Rattle.std.proofs.lemmas.List.{append-nil, length-append, length-drop, length-take, take-append-drop}
+use Rattle.std.proofs.lemmas.Option.{slice_get_past}
+use Rattle.std.specs.Prelude.{◌↔◌, slice_get}
 use Rattle.std.proofs.Math.Seq.{take-append_seam}
 use Rattle.procedure.specs.Table.{Table}
 use Rattle.procedure.specs.Procedures.{Procedure}
 use Rattle.commitlog.specs.Records.{Record, Token, Call}
 use Rattle.commitlog.specs.Histories.{EachAfter, after, table_after, IsAnsweredAfter}
 use Rattle.commitlog.proofs.Histories.{each-push, after-push}
+use Rattle.commitlog.proofs.Fields.{some_is}
 use Rattle.commitlog.proofs.Lists.{slice_get-seam}
 use Rattle.replay.specs.Parts.{EntryAgain, RunAgain, at_place}
 use Rattle.replay.specs.Replays.{IsAnsweredOn, LeavesFewOn, RunsAgain, IsFirst, calls_in}
@@ -47,97 +50,77 @@ module _ {P F : List Record → Record → Type 0} where
         fault = subst (λ l. F l r) (sym same) fault;
       }
 
+-- what stands at a place is the first of those from it on
+pub first_from : (l : List Record) (k : ℕ) (r : Record) (rest : List Record) → drop k l ≡ r ∷ rest → slice_get l k ≡ Some r
+first_from l k r rest e =
+    let within : k < length l = omega (arith, ap (λ (x : List Record). length x) e, length-drop k l) in
+    let len : length (take k l) ≡ k = omega (arith, length-take k l) in
+    ap (λ (x : List Record). slice_get x k) (sym (take-append-drop k l) ∙ ap (λ (x : List Record). take k l ++ x) e)
+    ∙ ap (slice_get (take k l ++ r ∷ rest)) (sym len) ∙ slice_get-seam (take k l) r rest
+
+pub none_from : (l : List Record) (k : ℕ) → drop k l ≡ [] → slice_get l k ≡ None
+none_from l k e = slice_get_past l k (omega (arith, ap (λ (x : List Record). length x) e, length-drop k l))
+
+-- whether a record is the one that stands there
+pub stands_there : (l : List Record) (k : ℕ) (r t : Record) → slice_get l k ≡ Some r → (r ≡ t) ↔ (slice_get l k ≡ Some t)
+stands_there l k r t e = (λ same. e ∙ ap (λ (x : Record). Some x) same, λ there. some_is r t (sym e ∙ there))
+
+pub stands_not : (l : List Record) (k : ℕ) (t : Record) → slice_get l k ≡ None → slice_get l k ≡ Some t → ⊥
+stands_not l k t e there = cc
+
 -- the records from place k on are run again, as far as these
 pub record SoFar (c : List Procedure) (t : Table) (k : ℕ) (all left : List Record) (u : Table) (n p : ℕ) : Type 0 where
   pub done : List Record
-  pub parts : all ≡ done ++ left
-  pub place : p ≡ length done
-  pub again : EachAfter (RunsAgain c t) (drop k done)
-  pub table : u ≡ after c t (drop k done)
-  pub calls : n ≡ calls_in (drop k done)
+  pub parts : drop k all ≡ done ++ left
+  pub place : p ≡ k + length done
+  pub again : EachAfter (RunsAgain c t) done
+  pub table : u ≡ after c t done
+  pub calls : n ≡ calls_in done
 
 module _ (c : List Procedure) (t : Table) (k : ℕ) (all : List Record) where
-  pub at_first : SoFar c t k all all t 0 0
+  pub at_first : SoFar c t k all (drop k all) t 0 k
   unfolding after
-  at_first = let none = drop_all {X = Record} k [] (omega arith) in record {
-    done = [];
-    parts = refl;
-    place = refl;
-    again = subst (EachAfter (RunsAgain c t)) (sym none) (λ i r e. absurd (cc));
-    table = sym (ap (after c t) none);
-    calls = sym (ap calls_in none);
-  }
+  at_first = record { done = []; parts = refl; place = omega arith; again = λ i r e. absurd (cc); table = refl; calls = refl }
 
   module _ (r : Record) (left : List Record) (u : Table) (n p : ℕ) (s : SoFar c t k all (r ∷ left) u n p) where
-    parts_more : all ≡ (s.done ++ r ∷ []) ++ left
-    parts_more = s.parts ∙ sym (append_assoc s.done (r ∷ []) left)
+    -- one that runs again goes with them
+    pub run_on : (v : Table) → EntryAgain c u r (Ok v) → SoFar c t k all left v (n + calls_in (r ∷ [])) (p + 1)
+    run_on v ran = record {
+      done = s.done ++ r ∷ [];
+      parts = s.parts ∙ sym (append_assoc s.done (r ∷ []) left);
+      place = omega (arith, s.place, length-append s.done (r ∷ []));
+      again = each-push (RunsAgain c t) s.done r s.again
+          (answered_after c t s.done r (subst (λ (x : Table). IsAnsweredOn c x r) s.table ran.0), subst (λ (x : Table). LeavesFewOn c x r) s.table ran.1);
+      table = ran.2 ∙ ap (λ (x : Table). table_after c x r) s.table ∙ sym (after-push c t s.done r);
+      calls = ap (λ x. x + calls_in (r ∷ [])) s.calls ∙ sym (calls_in-push s.done r);
+    }
 
-    place_more : p + 1 ≡ length (s.done ++ r ∷ [])
-    place_more = omega (arith, s.place, length-append s.done (r ∷ []))
+    first : {F : List Record → Record → Type 0} → F s.done r → IsFirst (RunsAgain c t) F (drop k all) (length s.done)
+    first {F} fault = subst (λ x. IsFirst (RunsAgain c t) F x (length s.done)) (sym s.parts) (first_behind s.done left r s.again fault)
 
-    -- one that is covered is left out
-    pub left_out : p < k → SoFar c t k all left u n (p + 1)
-    left_out before =
-        let none : drop k s.done ≡ [] = drop_all k s.done (omega (arith, s.place)) in
-        let none_more : drop k (s.done ++ r ∷ []) ≡ [] = drop_all k (s.done ++ r ∷ []) (omega (arith, place_more)) in
-        let same : drop k s.done ≡ drop k (s.done ++ r ∷ []) = none ∙ sym none_more in
-        record {
-          done = s.done ++ r ∷ [];
-          parts = parts_more;
-          place = place_more;
-          again = subst (EachAfter (RunsAgain c t)) same s.again;
-          table = s.table ∙ ap (after c t) same;
-          calls = s.calls ∙ ap calls_in same;
-        }
+    -- one that doesn't stops the run
+    pub stops : (torn : Bool) (e : CallError) → EntryAgain c u r (Err e) → RunAgain c t k all torn (Err (at_place e p))
+    stops torn stopped.Diverged h =
+        (length s.done, first (λ a. h (subst (λ (x : Table). IsAnsweredOn c x r) (sym s.table) (answered_on c t s.done r a))), s.place)
+    stops torn stopped.TooMany h = (
+      length s.done,
+      first
+          (answered_after c t s.done r (subst (λ (x : Table). IsAnsweredOn c x r) s.table h.0), λ few. h.1 (subst (λ (x : Table). LeavesFewOn c x r) (sym s.table) few)),
+    )
+    stops torn stopped.NoMemory h = tt
 
-    module _ (behind : k ≤ p) where
-      longer : drop k (s.done ++ r ∷ []) ≡ drop k s.done ++ r ∷ []
-      longer = drop-append-le k s.done (r ∷ []) (omega (arith, s.place))
-
-      -- one that runs again goes with them
-      pub run_on : (v : Table) → EntryAgain c u r (Ok v) → SoFar c t k all left v (n + calls_in (r ∷ [])) (p + 1)
-      run_on v ran =
-          let l = drop k s.done in
-          let table_is = s.table in
-          record {
-            done = s.done ++ r ∷ [];
-            parts = parts_more;
-            place = place_more;
-            again = subst (EachAfter (RunsAgain c t)) (sym longer)
-                (each-push (RunsAgain c t) l r s.again
-                (answered_after c t l r (subst (λ (x : Table). IsAnsweredOn c x r) table_is ran.0), subst (λ (x : Table). LeavesFewOn c x r) table_is ran.1));
-            table = ran.2 ∙ ap (λ (x : Table). table_after c x r) table_is ∙ sym (after-push c t l r) ∙ ap (after c t) (sym longer);
-            calls = ap (λ x. x + calls_in (r ∷ [])) s.calls ∙ sym (calls_in-push l r) ∙ ap calls_in (sym longer);
-          }
-
-      rest_is : drop k all ≡ drop k s.done ++ r ∷ left
-      rest_is = ap (drop k) s.parts ∙ drop-append-le k s.done (r ∷ left) (omega (arith, s.place))
-
-      first : {F : List Record → Record → Type 0} → F (drop k s.done) r → IsFirst (RunsAgain c t) F (drop k all) (length (drop k s.done))
-      first {F} fault = subst (λ x. IsFirst (RunsAgain c t) F x (length (drop k s.done))) (sym rest_is) (first_behind (drop k s.done) left r s.again fault)
-
-      -- one that doesn't stops the run
-      pub stops : (torn : Bool) (e : CallError) → EntryAgain c u r (Err e) → RunAgain c t k all torn (Err (at_place e p))
-      stops torn stopped.Diverged h =
-          (length (drop k s.done), first (λ a. h (subst (λ (x : Table). IsAnsweredOn c x r) (sym s.table) (answered_on c t (drop k s.done) r a))), omega (arith, s.place, length-drop k s.done))
-      stops torn stopped.TooMany h = (
-        length (drop k s.done),
-        first
-            (answered_after c t (drop k s.done) r (subst (λ (x : Table). IsAnsweredOn c x r) s.table h.0), λ few. h.1 (subst (λ (x : Table). LeavesFewOn c x r) (sym s.table) few)),
-      )
-      stops torn stopped.NoMemory h = tt
+    -- the counts stay below that of all records
+    pub counts : (n + 1 ≤ length all) × (p + 1 ≤ length all)
+    counts =
+        let some = ap (λ (l : List Record). length l) s.parts in
+        let all_left = length-drop k all in
+        let both = length-append s.done (r ∷ left) in
+        let few = calls_within s.done in
+        (omega (arith, s.calls, some, all_left, both, few), omega (arith, s.place, some, all_left, both))
 
   pub ends : (u : Table) (n p : ℕ) (torn : Bool) → SoFar c t k all [] u n p → RunAgain c t k all torn (Ok (record { state = u; calls = n; torn = torn }))
   ends u n p torn s =
-      let same : s.done ≡ all = sym (append-nil s.done) ∙ sym s.parts in (
-        subst (λ x. EachAfter (RunsAgain c t) (drop k x)) same s.again,
-        λ i. record { state = (s.table ∙ ap (λ x. after c t (drop k x)) same) i; calls = (s.calls ∙ ap (λ x. calls_in (drop k x)) same) i; torn = torn },
+      let same : s.done ≡ drop k all = sym (append-nil s.done) ∙ sym s.parts in (
+        subst (EachAfter (RunsAgain c t)) same s.again,
+        λ i. record { state = (s.table ∙ ap (after c t) same) i; calls = (s.calls ∙ ap calls_in same) i; torn = torn },
       )
-
-  -- the counts stay below those of the records
-  pub counts : (left : List Record) (u : Table) (n p : ℕ) → SoFar c t k all left u n p → (n ≤ p) × (p + length left ≡ length all)
-  counts left u n p s = (omega (arith, s.calls, s.place, calls_within (drop k s.done), length-drop k s.done), omega (arith, s.place, ap length s.parts, length-append s.done left))
-
-pub none_left : {X : Type 0} (xs : List X) (n : ℕ) → n ≡ length xs → n ≡ 0 → xs ≡ []
-none_left [] n e z = refl
-none_left (x ∷ xs) n e z = absurd (omega arith)

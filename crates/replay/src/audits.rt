@@ -17,7 +17,7 @@ use crate::headers::{names_catalog, names_opening};
 use crate::orders::Order;
 use crate::recovery::is_torn;
 use crate::tables::copy_of_table;
-use commitlog::{Record, StoredLog, read_log};
+use commitlog::{CheckedLog, StoredRecords, check_log};
 use image::Image;
 use procedure::{Catalog, Table};
 use std::alloc::Allocator;
@@ -38,7 +38,7 @@ fn check_header<A: Allocator + Clone>(
     alloc: A,
     catalog: &Catalog<A>,
     opening: &Image<A>,
-    log: &StoredLog<A>,
+    log: &CheckedLog<'_>,
 ) -> Result<(), AuditError>
     ensures ok { OnOk result (NamesBoth catalog.now opening.now log.now.version log.now.header) }
     ensures err { IfErr result (λ e. OfLog catalog.now opening.now log.now.version log.now.header log.now.records log.now.ending (Err e) ⊎ (e ≡ refused.NoMemory)) }
@@ -67,29 +67,29 @@ fn audit_records<A: Allocator + Clone>(
     alloc: &A,
     catalog: &Catalog<A>,
     table: Table<A>,
-    records: Vec<Record<A>, A>,
+    records: StoredRecords<'_>,
     torn: bool,
 ) -> Result<Audited, AuditError>
-    requires { length records.items ≤ LOG_RECORDS }
-    ensures { AreAudited catalog.now table records.items torn result }
+    requires { length records ≤ LOG_RECORDS }
+    ensures { AreAudited catalog.now table records.entry torn result }
 {
+    let mut records = records;
     let mut table = table;
     let mut order = Order::new();
     let mut calls = 0;
     let mut place = 0;
-    for made in records {
-        let at = place;
-        place += 1;
+    while let Some(made) = records.next(alloc)? {
         let entry = made.into_entry();
         if !order.admits(&entry) {
-            return Err(AuditError::Disorder(at));
+            return Err(AuditError::Disorder(place));
         }
         order.note(&entry);
         calls += calls_of(&entry);
         match run_entry(alloc.clone()?, catalog, entry, table) {
             Ok(after) => table = after,
-            Err(stopped) => return Err(refusal_at(stopped, at)),
+            Err(stopped) => return Err(refusal_at(stopped, place)),
         }
+        place += 1;
     }
     Ok(Audited {
         records: place,
@@ -103,15 +103,15 @@ fn audit_log<A: Allocator + Clone>(
     alloc: A,
     catalog: &Catalog<A>,
     opening: &Image<A>,
-    log: StoredLog<A>,
+    log: CheckedLog<'_>,
 ) -> Result<Audited, AuditError>
     requires { length log.records ≤ LOG_RECORDS }
-    ensures { OfLog catalog.now opening.now log.version log.header log.records log.ending result ⊎ (result ≡ Err refused.NoMemory) }
+    ensures { OfLog catalog.now opening.now log.entry.version log.entry.header log.entry.records log.entry.ending result ⊎ (result ≡ Err refused.NoMemory) }
 {
     check_header(alloc.clone()?, catalog, opening, &log)?;
     let torn = is_torn(log.ending);
     let table = copy_of_table(alloc.clone()?, opening)?;
-    audit_records(&alloc, catalog, table, log.records.into_vec(), torn)
+    audit_records(&alloc, catalog, table, log.records, torn)
 }
 
 fn answer<A: Allocator + Clone>(
@@ -126,7 +126,7 @@ fn answer<A: Allocator + Clone>(
     if !opening.is_opening() {
         return Err(AuditError::NotAnOpening);
     }
-    let log = read_log(alloc.clone()?, log_bytes)?;
+    let log = check_log(log_bytes)?;
     audit_log(alloc, catalog, opening, log)
 }
 

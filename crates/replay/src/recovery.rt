@@ -6,7 +6,7 @@ ghost use Rattle.std.specs.declared.result.Result.{Result};
 ghost use Rattle.phase.specs.declared.phases.Phase.TheVariants.{Resolve};
 ghost use Rattle.commitlog.specs.Records.{Token, record_of};
 ghost use Rattle.commitlog.specs.declared.limits.TheConstants.{LOG_RECORDS};
-ghost use Rattle.commitlog.specs.LogReadings.{IsReading, reading_of};
+ghost use Rattle.commitlog.specs.LogReadings.{IsReading};
 ghost use Rattle.image.specs.Images.{Image as SpecImage};
 ghost use Rattle.image.specs.Mergers.{after};
 ghost use Rattle.image.specs.Merges.{table_of};
@@ -23,7 +23,7 @@ use crate::errors::RecoverError;
 use crate::headers::{names_catalog, names_opening};
 use crate::tables::into_table;
 use commitlog::records::Entry;
-use commitlog::{Ending, Record, StoredLog, read_log};
+use commitlog::{CheckedLog, Ending, StoredRecords, check_log};
 use image::{Image, Merger, merge};
 use phase::Phase;
 use procedure::{Catalog, NoMemory, Table};
@@ -87,19 +87,24 @@ fn resolves<A: Allocator>(entry: &Entry<A>, number: u64) -> bool
 }
 
 /// Whether at the place of a checkpoint's image stands its resolve token.
-fn is_placed<A: Allocator>(records: &[Record<A>], image: &Image<A>) -> bool
-    ensures { IsTrue result ↔ IsPlaced records.now image.now }
+fn is_placed<A: Allocator + Clone>(
+    alloc: &A,
+    records: &StoredRecords<'_>,
+    image: &Image<A>,
+) -> Result<bool, NoMemory>
+    ensures { IfOk result (λ b. IsTrue b ↔ IsPlaced records.now image.now) }
 {
-    match records.get(image.place() as usize) {
-        Some(found) => resolves(found.entry(), image.number()),
-        None => false,
+    let mut records = records.from_place(image.place() as usize);
+    match records.next(alloc)? {
+        Some(found) => Ok(resolves(found.entry(), image.number())),
+        None => Ok(false),
     }
 }
 
 /// Whether the log began with an image of number 0.
 fn begins_log<A: Allocator>(
     alloc: A,
-    log: &StoredLog<A>,
+    log: &CheckedLog<'_>,
     image: &Image<A>,
 ) -> Result<bool, NoMemory>
     ensures { IfOk result (λ b. IsTrue b ↔ BeginsLog log.now.version log.now.header image.now) }
@@ -112,7 +117,7 @@ fn check_start<A: Allocator + Clone>(
     alloc: A,
     catalog: &Catalog<A>,
     image: &Image<A>,
-    log: &StoredLog<A>,
+    log: &CheckedLog<'_>,
 ) -> Result<(), RecoverError>
     ensures ok { OnOk result (GoesOn catalog.now image.now log.now.version log.now.header log.now.records) }
     ensures err { IfErr result (λ e. OfLog catalog.now image.now log.now.version log.now.header log.now.records log.now.ending (Err e) ⊎ (e ≡ refused.NoMemory)) }
@@ -124,7 +129,7 @@ fn check_start<A: Allocator + Clone>(
         if !begins_log(alloc, log, image)? {
             return Err(RecoverError::WrongOpening);
         }
-    } else if !is_placed(log.records.as_slice(), image) {
+    } else if !is_placed(&alloc, &log.records, image)? {
         return Err(RecoverError::PlaceOutside);
     }
     Ok(())
@@ -146,27 +151,24 @@ fn run_again<A: Allocator + Clone>(
     catalog: &Catalog<A>,
     table: Table<A>,
     from: usize,
-    records: Vec<Record<A>, A>,
+    records: &StoredRecords<'_>,
     torn: bool,
 ) -> Result<Recovered<A>, RecoverError>
-    requires { length records.items ≤ LOG_RECORDS }
-    ensures { RunAgain catalog.now table from records.items torn result }
+    requires { length records.now ≤ LOG_RECORDS }
+    ensures { RunAgain catalog.now table from records.now torn result }
 {
+    let mut records = records.from_place(from);
     let mut table = table;
     let mut calls = 0;
-    let mut place = 0;
-    for made in records {
-        let at = place;
-        place += 1;
-        if at < from {
-            continue;
-        }
+    let mut place = from;
+    while let Some(made) = records.next(alloc)? {
         let entry = made.into_entry();
         calls += calls_of(&entry);
         match run_entry(alloc.clone()?, catalog, entry, table) {
             Ok(after) => table = after,
-            Err(stopped) => return Err(refusal_at(stopped, at)),
+            Err(stopped) => return Err(refusal_at(stopped, place)),
         }
+        place += 1;
     }
     Ok(Recovered {
         state: table,
@@ -189,17 +191,17 @@ fn recover_log<A: Allocator + Clone>(
     alloc: A,
     catalog: &Catalog<A>,
     image: Image<A>,
-    log: StoredLog<A>,
+    log: &CheckedLog<'_>,
 ) -> Result<Recovered<A>, RecoverError>
-    requires { length log.records ≤ LOG_RECORDS }
-    ensures answer { OfLog catalog.now image log.version log.header log.records log.ending result ⊎ (result ≡ Err refused.NoMemory) }
+    requires { length log.now.records ≤ LOG_RECORDS }
+    ensures answer { OfLog catalog.now image log.now.version log.now.header log.now.records log.now.ending result ⊎ (result ≡ Err refused.NoMemory) }
     ensures few { IfOk result (λ r. finite.len r.state ≤ ENTRIES) }
 {
-    check_start(alloc.clone()?, catalog, &image, &log)?;
+    check_start(alloc.clone()?, catalog, &image, log)?;
     let from = image.place() as usize;
     let torn = is_torn(log.ending);
     let table = into_table(alloc.clone()?, image)?;
-    run_again(&alloc, catalog, table, from, log.records.into_vec(), torn)
+    run_again(&alloc, catalog, table, from, &log.records, torn)
 }
 
 /// What is recovered from images that were put together and a log.
@@ -212,8 +214,8 @@ fn answer_to<A: Allocator + Clone>(
     ensures answer { (images : List SpecImage) → chain_of images ≡ Ok image → IsRecovery catalog.now images log_bytes.now result ⊎ (result ≡ Err refused.NoMemory) }
     ensures few { IfOk result (λ r. finite.len r.state ≤ ENTRIES) }
 {
-    let log = read_log(alloc.clone()?, log_bytes)?;
-    recover_log(alloc, catalog, image, log)
+    let log = check_log(log_bytes)?;
+    recover_log(alloc, catalog, image, &log)
 }
 
 fn answer<A: Allocator + Clone>(
@@ -243,7 +245,8 @@ fn answer_in_turn<A: Allocator + Clone>(
 
 /// The table after a log's whole records: images that stand on one another are put together, and the
 /// calls that they don't cover are run again, each on the table that those before it left. The log is
-/// read once, and a call costs what it touches times the logarithm of the table.
+/// checked first, and then each record that is not covered is made when its turn comes. A call costs what
+/// it touches times the logarithm of the table.
 ///
 /// The image of number 0 is the one that the log began with, spelled in the image format of the log's
 /// version; at the place of any other stands the token by which its checkpoint was cut. A call that

@@ -5,7 +5,7 @@ use Rattle.replay.proofs.audits.answer.Goals as goal
 
 pub returns-in_err-log-clause-audit : goal.returns-in_err-log-clause-audit
 returns-in_err-log-clause-audit g c =
-    let p = err_from_is_err_and c.from_residual-in_err-log.result c.from_residual-in_err-log.ensures.1 in
+    let p = err_from_is_err_and c.from_residual.result c.from_residual.ensures.1 in
     rw (p.1, p.2) (from_no_log c.args.catalog.now c.args.opening.now c.args.log_bytes.now (sym c.is_opening.ensures ∙ c.if-not-is_opening.false) c.in_err-log.field-0.0 c.in_err-log.ensures.not_a_log
     c.in_err-log.ensures.damaged)
 

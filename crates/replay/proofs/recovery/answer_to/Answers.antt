@@ -4,7 +4,7 @@ use Rattle.replay.proofs.recovery.answer_to.Goals as goal
 
 pub returns-in_err-log-clause-answer : goal.returns-in_err-log-clause-answer
 returns-in_err-log-clause-answer g c = λ images whole.
-    let p = err_from_is_err_and c.from_residual-in_err-log.result c.from_residual-in_err-log.ensures.1 in
+    let p = err_from_is_err_and c.from_residual.result c.from_residual.ensures.1 in
     rw (p.1, p.2) (from_no_log c.args.catalog.now images c.args.log_bytes.now c.args.image whole c.in_err-log.field-0.0 c.in_err-log.ensures.not_a_log
     c.in_err-log.ensures.damaged)
 
