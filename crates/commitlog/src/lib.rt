@@ -2,8 +2,8 @@
 //!
 //! The definitions are in `specs/`: histories that are legal, orderly and cyclic (`Histories`), the cut
 //! and the images of a checkpoint (`Cuts`), the bytes of a log (`LogBytes`), what of them has gone out of a
-//! log that is written record by record (`LogWriters`), and the one reading of a text as a log
-//! (`LogReadings`).
+//! log that is written record by record (`LogWriters`), the one reading of a text as a log
+//! (`LogReadings`), and the records that stand in a text (`StoredRecords`).
 #![tactic(auto)]
 
 mod bodies;
