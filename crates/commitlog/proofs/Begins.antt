@@ -70,9 +70,15 @@ tells reads bytes (Err refused.NotALog) r a b = one_reading bytes r NotALog b a
 tells reads bytes (Err (refused.Damaged i)) r a b = one_reading bytes r (Damaged i) b a
 tells reads bytes (Err refused.NoMemory) r a b = tt
 
--- and that a text is no log, whatever the memory is
+-- and that a text is no log, or where it is damaged, whatever the memory is
 pub tells_no_log : {A : Type 0} (bytes : Bytes) (o : Result (StoredLog A) LogError) → IsAnswer bytes o → IsReading bytes NotALog → o ≡ Err refused.NotALog
 tells_no_log bytes (Ok log) a b = absurd (cc (one_reading bytes NotALog (reading_of log) b a))
 tells_no_log bytes (Err refused.NotALog) a b = refl
 tells_no_log bytes (Err (refused.Damaged i)) a b = absurd (cc (one_reading bytes NotALog (Damaged i) b a))
-tells_no_log bytes (Err refused.NoMemory) a b = absurd (a b)
+tells_no_log bytes (Err refused.NoMemory) (v, h, rs, e, a) b = absurd (cc (one_reading bytes NotALog (Log v h rs e) b a))
+
+pub tells_damage : {A : Type 0} (bytes : Bytes) (o : Result (StoredLog A) LogError) (i : ℕ) → IsAnswer bytes o → IsReading bytes (Damaged i) → o ≡ Err (refused.Damaged i)
+tells_damage bytes (Ok log) i a b = absurd (cc (one_reading bytes (Damaged i) (reading_of log) b a))
+tells_damage bytes (Err refused.NotALog) i a b = absurd (cc (one_reading bytes (Damaged i) NotALog b a))
+tells_damage bytes (Err (refused.Damaged j)) i a b = cc (one_reading bytes (Damaged i) (Damaged j) b a)
+tells_damage bytes (Err refused.NoMemory) i (v, h, rs, e, a) b = absurd (cc (one_reading bytes (Damaged i) (Log v h rs e) b a))

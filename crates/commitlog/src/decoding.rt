@@ -109,14 +109,16 @@ pub(crate) fn read_whole<A: Allocator + Clone>(
 
 /// Reads a log in either version, in time linear in the bytes. What is answered is the one reading of
 /// the bytes (`IsReading`): the records that stand whole at the front and, where less than one stands
-/// after them, `Torn`. No digest of the header is compared with anything. What is `NotALog` takes no memory.
+/// after them, `Torn`. No digest of the header is compared with anything. Only what is a log takes memory.
 pub fn read_log<A: Allocator + Clone>(alloc: A, bytes: &[u8]) -> Result<StoredLog<A>, LogError>
     ensures read { IfOk result (λ log. IsReading bytes.now (reading_of log)) }
     ensures not_a_log { result ≡ Err refused.NotALog → IsReading bytes.now NotALog }
     ensures damaged { (i : ℕ) → result ≡ Err (refused.Damaged i) → IsReading bytes.now (Damaged i) }
     // No other reading is lawful, and a lawful one is answered unless memory runs out.
     ensures only { (r : Reading) → IsReading bytes.now r → Tells result r }
+    // These two are answered whatever memory there is.
     ensures foreign { IsReading bytes.now NotALog → result ≡ Err refused.NotALog }
+    ensures damage { (i : ℕ) → IsReading bytes.now (Damaged i) → result ≡ Err (refused.Damaged i) }
 {
     read_whole(&alloc, bytes)
 }
