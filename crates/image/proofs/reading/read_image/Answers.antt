@@ -1,5 +1,7 @@
-use Rattle.std.proofs.Common.{rules, ◌≡◌, inl, Ok, ap, ◌∙◌}
+use Rattle.std.proofs.Common.{rules, ◌≡◌, inl, Ok, Err, ap, ◌∙◌}
+use Rattle.std.proofs.lemmas.Result.{err_from_is_err_and}
 use Rattle.image.specs.Images.{Image}
+use Rattle.image.specs.declared.errors.ReadError.{ReadError}
 use Rattle.image.proofs.ReadAnswers.{is_an_image}
 use Rattle.image.proofs.reading.read_image.Goals as goal
 
@@ -13,3 +15,16 @@ returns-clause-exact g c = λ answer h.
 
 pub returns-clause-not_an_image : goal.returns-clause-not_an_image
 returns-clause-not_an_image g c = λ none. absurd (is_an_image c.args.bytes.now c.in_ok-checked.checked c.in_ok-checked.ensures.answer none)
+
+pub returns-in_err-checked-clause-refusal : goal.returns-in_err-checked-clause-refusal
+returns-in_err-checked-clause-refusal g c = λ e h.
+    let p = err_from_is_err_and c.from_residual.result c.from_residual.ensures.1 in
+    let same : c.in_err-checked.field-0.0 ≡ e = cc (c.in_err-checked.ensures.exact (Err e) h) in
+    rw (p.1, p.2) (ap (λ (x : ReadError). Err x) same)
+
+-- the bytes of an image aren't refused
+pub returns-in_err-entries-clause-refusal : goal.returns-in_err-entries-clause-refusal
+returns-in_err-entries-clause-refusal g c = λ e h. absurd (cc (c.in_ok-checked.ensures.exact (Err e) h))
+
+pub returns-clause-refusal : goal.returns-clause-refusal
+returns-clause-refusal g c = λ e h. absurd (cc (c.in_ok-checked.ensures.exact (Err e) h))
