@@ -10,7 +10,7 @@ use Rattle.std.proofs.lemmas.List.Elements.{All-cons, All-head, All-nil, All-tai
 use Rattle.procedure.specs.Bytes.{Bytes, Cell}
 use Rattle.image.specs.ImageBytes.{IsWithin, IsWritable}
 use Rattle.image.specs.Images.{AllPresent, Entry, IsLawfulImage, Image, SuitsKind}
-use Rattle.image.specs.Pieces.{AreLawful, AreParts, Fits, IsBased, is_above, rise_from}
+use Rattle.image.specs.inside.Pieces.{AreLawful, AreParts, Fits, IsBased, is_above, rise_from}
 use Rattle.image.specs.declared.images.Kind.{Kind}
 use Rattle.image.specs.declared.images.Kind.TheVariants.{Full, Partial}
 use Rattle.image.proofs.Rising.{below_next, by_bytes, steps_up, steps_up-is_sorted}

@@ -11,7 +11,7 @@ use Rattle.image.specs.Images.{Entry}
 use Rattle.image.specs.Fronts.{◌>>=◌, after_ok, behind, behind_ok, block_at, block_then, blocks_at, entry_at, entries_at, parted}
 use Rattle.image.specs.ImageBytes.{block_count}
 use Rattle.image.specs.Readings.{alone_or_bad, alone_or_refused}
-use Rattle.image.specs.Pieces.{AreThere, block_after, past_digest, pieces_in, with_first}
+use Rattle.image.specs.inside.Pieces.{AreThere, block_after, past_digest, pieces_in, with_first}
 use Rattle.image.specs.declared.errors.ReadError.{ReadError}
 use Rattle.image.proofs.FrontEntries.{bind_some, guard_some, some_is}
 use Rattle.image.proofs.FrontLoops.{was_read}

@@ -8,10 +8,11 @@ pub mod Layers
 pub mod EntryBytes
 pub mod ImageBytes
 pub mod Fronts
-pub mod Pieces
+pub mod StoredEntries
 pub mod Refusals
 pub mod Readings
 pub mod Laws
 pub mod Headers
 pub mod Texts
 pub mod Streams
+pub mod inside

@@ -6,10 +6,10 @@ ghost use Rattle.byteorder.specs.Endian.{big_number};
 ghost use Rattle.image.specs.Fronts.{Gives};
 ghost use Rattle.image.specs.ImageBytes.{IsWritable, block_count};
 ghost use Rattle.image.specs.Images.{Image as SpecImage};
-ghost use Rattle.image.specs.Pieces.{AreLawful, AreParts, Fits, IsBased};
-ghost use Rattle.image.specs.Pieces as spec;
 ghost use Rattle.image.specs.Readings.{IsBad, Judges, alone_or_bad, alone_or_refused, first_entries, image_at, second_entries};
 ghost use Rattle.image.specs.Refusals.{IsAnswer, stated};
+ghost use Rattle.image.specs.inside.Pieces.{AreLawful, AreParts, Fits, IsBased};
+ghost use Rattle.image.specs.inside.Pieces as spec;
 ghost use Rattle.image.specs.declared.errors.ReadError.{ReadError};
 ghost use Rattle.image.specs.declared.errors.ReadError.TheVariants as refused;
 
@@ -45,24 +45,28 @@ impl<'a> Model for CheckedImage<'a> {
 }
 
 impl<'a> CheckedImage<'a> {
+    /// Whether it is full or partial.
     pub fn kind(&self) -> Kind
         ensures { result ≡ self.now.kind }
     {
         self.kind
     }
 
+    /// The number of its checkpoint.
     pub fn number(&self) -> u64
         ensures { result ≡ self.now.number }
     {
         self.number
     }
 
+    /// The number of the image that is its base; in a full image its own.
     pub fn base(&self) -> u64
         ensures { result ≡ self.now.base }
     {
         self.base
     }
 
+    /// How many records of the log stand before the checkpoint's cut.
     pub fn place(&self) -> u64
         ensures { result ≡ self.now.place }
     {

@@ -2,8 +2,9 @@
 //! its header and entries that came in any order.
 //!
 //! The definitions are in `specs/`: images (`Images`), their bytes in both versions (`ImageBytes`), how
-//! other bytes are refused (`Refusals`), the merge of a chain (`Merges`) and of one whose images come one
-//! after another (`Mergers`), and headers with the digest of their entries (`Headers`).
+//! other bytes are refused (`Refusals`), the entries that stand in an image's bytes (`StoredEntries`), the
+//! merge of a chain (`Merges`) and of one whose images come one after another (`Mergers`), and headers with
+//! the digest of their entries (`Headers`).
 #![tactic(auto)]
 
 #[cfg(test)]

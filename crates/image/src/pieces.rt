@@ -1,7 +1,8 @@
 //! Entries that stand in the bytes of an image.
 
 ghost use Rattle.std.specs.Prelude.{◌≡◌, ◌<◌, length};
-ghost use Rattle.image.specs.Pieces.{AreThere, TakesFirst, block_after, past_digest, pieces_in};
+ghost use Rattle.image.specs.StoredEntries.{TakesFirst};
+ghost use Rattle.image.specs.inside.Pieces.{AreThere, block_after, past_digest, pieces_in};
 
 use crate::fronts::{Piece, entry_at};
 use crate::limits::BLOCK;
@@ -21,7 +22,7 @@ pub(crate) struct Pieces<'a> {
 impl<'a> Model for Pieces<'a> {
     ghost use Rattle.std.specs.Prelude.{List};
     ghost use Rattle.image.specs.Images.{Entry};
-    ghost use Rattle.image.specs.Pieces.{AreThere, pieces_in};
+    ghost use Rattle.image.specs.inside.Pieces.{AreThere, pieces_in};
 
     ghost Value = { List Entry };
 

@@ -3,7 +3,7 @@
 ghost use Rattle.std.specs.Prelude.{◌≡◌, IfOk, OnErr, length};
 ghost use Rattle.image.specs.ImageBytes.{IsWithin};
 ghost use Rattle.std.specs.List.{AllByRecursion};
-ghost use Rattle.image.specs.Pieces.{TakesFirst};
+ghost use Rattle.image.specs.StoredEntries.{TakesFirst};
 ghost use Rattle.procedure.specs.declared.limits.TheConstants.{VALUE_BYTES};
 
 use crate::entries::Entry;

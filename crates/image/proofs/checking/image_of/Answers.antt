@@ -2,7 +2,7 @@ use Rattle.std.proofs.Common.{rules, ◌≡◌, ◌<◌, ◌^◌, List, Some, re
 use Rattle.std.specs.Prelude.{slice_index}
 use Rattle.image.specs.Images.{Entry}
 use Rattle.image.specs.ImageBytes.{IsWritable}
-use Rattle.image.specs.Pieces.{AreParts}
+use Rattle.image.specs.inside.Pieces.{AreParts}
 use Rattle.image.specs.Readings.{kind_of}
 use Rattle.image.proofs.PieceChecks.{all_within, bad, image_is, made_of, writable}
 use Rattle.image.proofs.checking.image_of.Goals as goal

@@ -1,7 +1,7 @@
 use Rattle.std.proofs.lemmas.List.{nil_from_length}
 use Rattle.std.proofs.Common.{rules, ◌≡◌, length, Ok, List, sym, ap, ◌∙◌, subst}
 use Rattle.image.specs.Images.{Entry}
-use Rattle.image.specs.Pieces.{AreThere, pieces_in}
+use Rattle.image.specs.inside.Pieces.{AreThere, pieces_in}
 use Rattle.image.proofs.PieceLists.{blocks_are, blocks_there}
 use Rattle.image.proofs.checking.only_blocks.Goals as goal
 

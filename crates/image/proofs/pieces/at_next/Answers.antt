@@ -1,6 +1,6 @@
 use Rattle.std.proofs.Common.{◌≡◌, subst, arith, Some}
 use Rattle.image.specs.Fronts.{entry_at}
-use Rattle.image.specs.Pieces.{past_digest}
+use Rattle.image.specs.inside.Pieces.{past_digest}
 use Rattle.image.proofs.PieceLists.{has_digest, more}
 use Rattle.image.proofs.pieces.at_next.Goals as goal
 

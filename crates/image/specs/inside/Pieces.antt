@@ -11,11 +11,6 @@ use Rattle.image.specs.declared.images.Kind.{Kind}
 use Rattle.image.specs.declared.images.Kind.TheVariants.{Full, Partial}
 use Rattle.image.specs.declared.limits.TheConstants.{BLOCK, ENTRIES}
 
--- the first of entries was taken, if there is one
-abbrev pub TakesFirst : List Entry → Option Entry → List Entry → Type 0
-TakesFirst old None new = (old ≡ []) × (new ≡ [])
-TakesFirst old (Some e) new = old ≡ e ∷ new
-
 -- without the digest of the block, where none of its entries is left
 abbrev pub past_digest : ℕ → Bytes → Bytes
 past_digest zero b = drop 32 b
