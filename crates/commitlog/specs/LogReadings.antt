@@ -1,6 +1,6 @@
 -- What a text says as a log: its version, its header, the records that stand whole at its front, and what stands after
 -- them. Each text has one reading.
-use Rattle.std.specs.Prelude.{◌≡◌, ◌≢◌, ◌⊎◌, ◌≤◌, ◌<◌, ◌+◌, ℕ, List, [], ◌∷◌, ◌++◌, length, take, drop}
+use Rattle.std.specs.Prelude.{◌≡◌, ◌≢◌, ◌⊎◌, ◌≤◌, ◌<◌, ◌+◌, ℕ, List, [], ◌++◌, length, take, drop}
 use Rattle.std.specs.List.{AllByRecursion}
 use Rattle.byteorder.specs.Endian.{big_number}
 use Rattle.sha2.specs.Sha256.{sha256}
@@ -61,10 +61,6 @@ IsForeign v d rest = IsNoRecord v d (stated_body rest) (stated_digest rest)
 -- a length over the greatest, or a whole record that is none behind the digest d, or whose place i is past the last
 abbrev pub IsDamage : Version → Bytes → ℕ → Bytes → Type 0
 IsDamage v d i rest = (4 ≤ length rest) × ((greatest_body v < stated_length rest) ⊎ (IsWhole rest × (IsForeign v d rest ⊎ (i ≡ LOG_RECORDS))))
-
--- the body begins as that of a call
-abbrev pub IsOfCall : Bytes → Type 0
-IsOfCall text = take 1 text ≡ 1 ∷ []
 
 abbrev pub Ends : Version → Bytes → Ending → Type 0
 Ends v rest Clean = rest ≡ []

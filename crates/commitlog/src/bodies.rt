@@ -4,7 +4,7 @@ ghost use Rattle.std.specs.Prelude.{◌≡◌, ◌↔◌, ◌==◌, Err, IfErr, 
 ghost use Rattle.commitlog.specs.Records.{IsInRange, record_of};
 ghost use Rattle.commitlog.specs.LogBytes.{Fits, body, greatest_value};
 ghost use Rattle.commitlog.specs.BodyReading.{Gives, arguments_in, byte_in, call_in, many, number_in, phase_in, record_in, replies_in, reply_in, token_in, value_in};
-ghost use Rattle.commitlog.specs.LogReadings.{IsNoBody, IsOfCall};
+ghost use Rattle.commitlog.specs.LogReadings.{IsNoBody};
 ghost use Rattle.commitlog.specs.declared.bodies.BodyError.TheVariants as errors;
 
 use crate::formats::Version;
@@ -245,8 +245,7 @@ fn entry_of<A: Allocator + Clone>(
     version: Version,
     bytes: &[u8],
 ) -> Result<Entry<A>, BodyError>
-    ensures value { Gives record_of result (record_in (greatest_value version) bytes.now) }
-    ensures memory { result ≡ Err errors.NoMemory → IsOfCall bytes.now }
+    ensures { Gives record_of result (record_in (greatest_value version) bytes.now) }
 {
     match bytes {
         [0, rest @ ..] => token_of(rest),
@@ -270,7 +269,7 @@ fn record_of_entry<A: Allocator>(entry: Entry<A>) -> Result<Record<A>, BodyError
     }
 }
 
-/// The record whose body the bytes are, all of them. Only a call takes memory.
+/// The record whose body the bytes are, all of them.
 pub(crate) fn record_of_body<A: Allocator + Clone>(
     alloc: &A,
     version: Version,
@@ -279,7 +278,6 @@ pub(crate) fn record_of_body<A: Allocator + Clone>(
     ensures value { IfOk result (λ r. body r ≡ bytes.now) }
     ensures fits { IfOk result (λ r. Fits version r) }
     ensures malformed { result ≡ Err errors.Malformed → IsNoBody version bytes.now }
-    ensures memory { result ≡ Err errors.NoMemory → IsOfCall bytes.now }
 {
     let entry = entry_of(alloc, version, bytes)?;
     Ok(record_of_entry(entry)?)
