@@ -33,5 +33,5 @@ pub mod TextReadings
 pub mod ThreadEndings
 pub mod ThreadEnds
 pub mod ThreadJournals
-pub mod RisingTables
+pub mod ListedPairs
 pub mod WordValues

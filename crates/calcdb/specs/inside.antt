@@ -1,2 +1,2 @@
 -- What the proofs of the program speak of, and no contract of a command.
-pub mod RisingPairs
+pub mod ListedPairs

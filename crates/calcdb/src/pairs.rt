@@ -10,7 +10,7 @@ ghost use Rattle.calcdb.specs.Lines.{words};
 ghost use Rattle.calcdb.specs.Output.{header_line};
 ghost use Rattle.calcdb.specs.Pairs as spec;
 ghost use Rattle.calcdb.specs.Pairs.{EndsLoad, image_of_pairs};
-ghost use Rattle.calcdb.specs.inside.RisingPairs as rising;
+ghost use Rattle.calcdb.specs.inside.ListedPairs as listed;
 ghost use Rattle.calcdb.specs.Reads.{ReadsAs};
 ghost use Rattle.calcdb.specs.declared.faults.Fault.TheVariants as fault;
 
@@ -122,39 +122,29 @@ fn read_pairs<A: Allocator + Copy>(alloc: A, text: &[u8]) -> Result<Table<A>, Sc
     Ok(table)
 }
 
-/// The entries that lines have said so far, whose keys rise, and what the memory for more is taken from.
+/// The entries that lines have said so far, and what the memory for more is taken from.
 #[derive(Drop)]
-struct Rising<A: Allocator> {
+struct Listed<A: Allocator> {
     alloc: A,
     entries: Vec<Entry<A>, A>,
 }
 
-impl<A: Allocator> Model for Rising<A> {
+impl<A: Allocator> Model for Listed<A> {
     ghost use Rattle.std.specs.Prelude.{List};
     ghost use Rattle.image.specs.Images.{Entry};
 
     ghost Value = { List Entry };
 
-    ghost view = { λ r. r.entries.items };
+    ghost view = { λ l. l.entries.items };
 }
 
-/// Whether a key is above the last of these.
-fn is_above<A: Allocator>(entries: &[Entry<A>], key: &Key) -> bool
-    ensures { result ≡ rising.is_above entries.now key.now }
-{
-    match entries.last() {
-        Some(last) => last.key < *key,
-        None => true,
-    }
-}
-
-impl<A: Allocator + Clone> Rising<A> {
-    /// Adds a pair whose key is above those so far.
+impl<A: Allocator + Clone> Listed<A> {
+    /// Adds a pair.
     fn add(&mut self, key: Key, held: Value<A>) -> Result<(), Unread>
-        ensures { ReadsAs (λ _. self.new) result (rising.with_pair self.old (key, held)) }
+        ensures { ReadsAs (λ _. self.new) result (listed.with_pair self.old (key, held)) }
     {
-        if self.entries.len() >= ENTRIES || !is_above(self.entries.as_slice(), &key) {
-            return Err(Unread::Faulty(Misread::SameKey));
+        if self.entries.len() >= ENTRIES {
+            return Err(Unread::Faulty(Misread::ManyPairs));
         }
         self.entries.push(Entry {
             key,
@@ -164,8 +154,8 @@ impl<A: Allocator + Clone> Rising<A> {
     }
 }
 
-impl<A: Allocator + Clone> LineReader for Rising<A> {
-    ghost after = { rising.after_line };
+impl<A: Allocator + Clone> LineReader for Listed<A> {
+    ghost after = { listed.after_line };
 
     fn read_line(&mut self, line: &[u8]) -> Result<(), Unread> {
         match pair_in(&self.alloc, line)? {
@@ -175,16 +165,16 @@ impl<A: Allocator + Clone> LineReader for Rising<A> {
     }
 }
 
-/// The opening image of a text whose keys rise. None of any other, and of one with a fault.
-// Such a text needs no table, and any other is read again.
-fn read_rising<A: Allocator + Copy>(alloc: A, text: &[u8]) -> Result<Option<Image<A>>, NoMemory>
+/// The opening image of a text of which no key stands twice. None of any other, and of one with a fault.
+// Such a text needs no table: its entries are sorted in their place. Any other is read again.
+fn read_distinct<A: Allocator + Copy>(alloc: A, text: &[u8]) -> Result<Option<Image<A>>, NoMemory>
     ensures image { IfOk result (λ read. IfSome read (λ i. image_of_pairs text.now ≡ Ok i)) }
-    ensures none { IfOk result (λ read. IfNone read (rising.IsRising text.now → ⊥)) }
+    ensures none { IfOk result (λ read. IfNone read (listed.IsDistinct text.now → ⊥)) }
 {
     if text.len() > SCRIPT_BYTES {
         return Ok(None);
     }
-    let mut said = Rising {
+    let mut said = Listed {
         alloc,
         entries: Vec::new(alloc),
     };
@@ -193,15 +183,12 @@ fn read_rising<A: Allocator + Copy>(alloc: A, text: &[u8]) -> Result<Option<Imag
         Err(ScriptFault::NoMemory) => return Err(NoMemory),
         Err(_) => return Ok(None),
     }
-    let Rising { alloc: _, entries } = said;
-    match Image::new(Kind::Full, 0, 0, 0, entries) {
-        Some(image) => Ok(Some(image)),
-        None => unreachable!(),
-    }
+    let Listed { alloc: _, entries } = said;
+    Ok(Image::captured(Kind::Full, 0, 0, 0, entries))
 }
 
-/// The opening image of the pairs of a text whose keys stand in any order.
-fn read_unordered<A: Allocator + Copy>(alloc: A, text: &[u8]) -> Result<Image<A>, ScriptFault>
+/// The opening image of the pairs of a text, by a table of them, or the text's first fault.
+fn read_by_table<A: Allocator + Copy>(alloc: A, text: &[u8]) -> Result<Image<A>, ScriptFault>
     ensures { TellsScript (λ i. i) result (image_of_pairs text.now) }
 {
     match Image::opening(alloc, read_pairs(alloc, text)?) {
@@ -215,9 +202,9 @@ fn read_unordered<A: Allocator + Copy>(alloc: A, text: &[u8]) -> Result<Image<A>
 fn read_image<A: Allocator + Copy>(alloc: A, text: &[u8]) -> Result<Image<A>, ScriptFault>
     ensures { TellsScript (λ i. i) result (image_of_pairs text.now) }
 {
-    match read_rising(alloc, text) {
+    match read_distinct(alloc, text) {
         Ok(Some(image)) => Ok(image),
-        Ok(None) => read_unordered(alloc, text),
+        Ok(None) => read_by_table(alloc, text),
         Err(NoMemory) => Err(ScriptFault::NoMemory),
     }
 }

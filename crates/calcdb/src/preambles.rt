@@ -181,17 +181,19 @@ fn heading_of<A: Allocator>(names: &Names<A>, line: &[u8]) -> Result<(Key, u8), 
     }
 }
 
-impl<A: Allocator + Clone> Said<A> {
-    fn new(alloc: A) -> Result<Self, AllocError>
-        ensures { IfOk result (λ s. s ≡ spec.nothing_said) }
+impl<A: Allocator + Copy> Said<A> {
+    fn new(alloc: A) -> Self
+        ensures { result ≡ spec.nothing_said }
     {
-        Ok(Said {
-            names: KeyMap::new(alloc.clone()?),
+        Said {
+            names: KeyMap::new(alloc),
             procedures: Vec::new(alloc),
             block: None,
-        })
+        }
     }
+}
 
+impl<A: Allocator + Clone> Said<A> {
     fn allocator(&self) -> &A {
         self.procedures.allocator()
     }
@@ -374,7 +376,7 @@ pub(crate) struct Preamble<'a, A: Allocator> {
 }
 
 /// Reads the lines up to the first command.
-fn read_lines<'a, A: Allocator + Clone>(
+fn read_lines<'a, A: Allocator + Copy>(
     alloc: A,
     text: &'a [u8],
 ) -> Result<Preamble<'a, A>, ScriptFault>
@@ -382,7 +384,7 @@ fn read_lines<'a, A: Allocator + Clone>(
     ensures says { TellsScript as_preamble result (preamble_after spec.nothing_said 1 (lines text.entry.now)) }
     ensures numbered { IfOk result (λ p. p.line + size (option_map (λ t. t.now) p.left) ≤ SCRIPT_BYTES + 2) }
 {
-    let mut said = Said::new(alloc)?;
+    let mut said = Said::new(alloc);
     let mut number = 1;
     let mut rest = Some(text);
     while let Some(left) = rest {
@@ -401,7 +403,7 @@ fn read_lines<'a, A: Allocator + Clone>(
 /// The procedures of a text of at most 4,194,304 bytes and where its commands begin, or the first faulty
 /// line up to there: up to the first that is out of a block, isn't skipped and doesn't begin with `proc`.
 #[tactic(auto, unfolding(crate::specs::Preambles::preamble_of))]
-pub(crate) fn read_preamble<'a, A: Allocator + Clone>(
+pub(crate) fn read_preamble<'a, A: Allocator + Copy>(
     alloc: A,
     text: &'a [u8],
 ) -> Result<Preamble<'a, A>, ScriptFault>

@@ -145,20 +145,20 @@ fn read_commands<C: ReadCommand<A> + Drop, A: Allocator + Clone>(
 }
 
 /// The script that a text is.
-fn read_whole<C: ReadCommand<A> + Drop, A: Allocator + Clone>(
+fn read_whole<C: ReadCommand<A> + Drop, A: Allocator + Copy>(
     alloc: A,
     text: &[u8],
 ) -> Result<Script<C, A>, ScriptFault>
     ensures { TellsScript (λ s. s) result (spec.script_of C.reads text.now) }
 {
-    let preamble = read_preamble(alloc.clone()?, text)?;
+    let preamble = read_preamble(alloc, text)?;
     read_commands(alloc, preamble)
 }
 
 /// The script that a text of at most 4,194,304 bytes is, or its first faulty line. Lines end with a
 /// line feed, and words stand between spaces or tabs; docs/FORMATS.md has the language. It takes time
 /// and memory in proportion to the text.
-pub(crate) fn read_schedule<A: Allocator + Clone>(
+pub(crate) fn read_schedule<A: Allocator + Copy>(
     alloc: A,
     text: &[u8],
 ) -> Result<Schedule<A>, ScriptFault>
@@ -168,7 +168,7 @@ pub(crate) fn read_schedule<A: Allocator + Clone>(
 }
 
 /// The script that a text is of which the commands are calls, checkpoints and views, as `read_schedule`.
-pub(crate) fn read_thread_script<A: Allocator + Clone>(
+pub(crate) fn read_thread_script<A: Allocator + Copy>(
     alloc: A,
     text: &[u8],
 ) -> Result<ThreadScript<A>, ScriptFault>
@@ -180,7 +180,7 @@ pub(crate) fn read_thread_script<A: Allocator + Clone>(
 /// The procedures of a text of at most 4,194,304 bytes, or its first faulty line. Lines are looked at up
 /// to the first that is out of a block, isn't skipped and doesn't begin with `proc`; what stands from it
 /// on may be no script.
-pub(crate) fn read_catalog<A: Allocator + Clone>(
+pub(crate) fn read_catalog<A: Allocator + Copy>(
     alloc: A,
     text: &[u8],
 ) -> Result<Catalog<A>, ScriptFault>

@@ -1,11 +1,11 @@
 -- Entries in the order of their keys, and what is found among them.
 use Rattle.std.proofs.Common.{◌≡◌, ℕ, zero, suc, ◌<◌, Bool, true, false, cond, List, [], ◌∷◌, length, get_or, Some, None, Result, Ok, Err, IsTrue, ◌↔◌, T, is_ge, slice_get, inl, inr, add-one, refl, sym, ap, ◌∙◌, subst, arith}
 use Rattle.std.specs.Prelude.{◌&&◌}
-use Rattle.std.specs.Ordering.{nat_cmp, eq_by_cmp, is_eq, is_lt, ordering_reverse}
+use Rattle.std.specs.Ordering.{eq_by_cmp, is_eq, is_lt, ordering_reverse}
 use Rattle.std.specs.declared.cmp.Ordering.{Ordering}
 use Rattle.std.specs.declared.cmp.Ordering.TheVariants.{Less, Equal, Greater}
 use Rattle.std.specs.Cmp.{tied_itself}
-use Rattle.std.specs.Cmp.Lexicographic.{slice_cmp, nat_list_cmp_total}
+use Rattle.std.specs.Cmp.Lexicographic.{nat_list_cmp_total}
 use Rattle.std.specs.FinMap.{find, is_sorted, get, from_entries, get-from_entries, slice_cmp-IsAntisymmetric, nat_cmp-IsAntisymmetric}
 use Rattle.std.specs.FinMap.Entries.{below_all}
 use Rattle.std.specs.List.Sorted.{IsSearchInRange, IsBinarySearchResult, IsSortedBy}
@@ -13,25 +13,8 @@ use Rattle.std.proofs.lemmas.List.Sorted.{searchable_from_sorted}
 use Rattle.std.specs.Result.{MatchResult}
 use Rattle.std.proofs.lemmas.Bool.{cases_lt}
 use Rattle.procedure.specs.Bytes.{Bytes}
-
-abbrev pub by_bytes : Bytes → Bytes → Ordering
-by_bytes = slice_cmp nat_cmp
-
-pub both : (a b : Bool) → T a → T b → T (a && b)
-both true b x y = y
-both false b x y = x
-
-pub parts : (a b : Bool) → T (a && b) → T a × T b
-parts true b h = (tt, h)
-parts false b h = absurd h
-
-pub less_of : (r : Ordering) → T (is_lt r) → r ≡ Less
-less_of Less h = refl
-less_of Equal h = absurd h
-less_of Greater h = absurd h
-
-pub is_less : (r : Ordering) → r ≡ Less → T (is_lt r)
-is_less r e = subst (λ r. T (is_lt r)) (sym e) tt
+pub use Rattle.procedure.proofs.Maps.{by_bytes, parts}
+pub use Rattle.procedure.proofs.Sorting.{below_through, both, is_less, less_of}
 
 -- the next key is above this one
 abbrev pub below_next : {X : Type 0} → Bytes → List (Bytes × X) → Bool
@@ -42,12 +25,6 @@ below_next k (e ∷ es) = is_lt (by_bytes k e.0)
 abbrev pub steps_up : {X : Type 0} → List (Bytes × X) → Bool
 steps_up [] = true
 steps_up (e ∷ es) = below_next e.0 es && steps_up es
-
-pub below_through : {X : Type 0} (j k : Bytes) (es : List (Bytes × X)) → by_bytes j k ≡ Less → T (below_all by_bytes k es) → T (below_all by_bytes j es)
-below_through j k [] lt h = tt
-below_through j k (e ∷ es) lt h =
-    let (here, there) = parts (is_lt (by_bytes k e.0)) (below_all by_bytes k es) h in
-    both (is_lt (by_bytes j e.0)) (below_all by_bytes j es) (is_less _ (nat_list_cmp_total.trans j k e.0 lt (less_of _ here))) (below_through j k es lt there)
 
 joined_tests : (a b c d : Bool) → (T a → T b → T c) → (a && (b && d)) ≡ ((a && c) && (b && d))
 joined_tests true true true d f = refl

@@ -1,9 +1,7 @@
 -- Entries that came in any order, once they are sorted by their keys.
 use Rattle.std.proofs.Common.{◌≡◌, ℕ, suc, ◌+◌, ◌≤◌, Bool, true, false, cond, ◌||◌, List, [], ◌∷◌, ◌++◌, length, map, get_or, Option, Some, None, is_some, ◌↔◌, T, inl, inr, ◌⊎◌, true≢false, refl, sym, ap, ◌∙◌, subst, arith}
 use Rattle.std.specs.Prelude.{IfSome, IsSome}
-use Rattle.std.specs.Ordering.{eq_by_cmp, is_eq, is_lt, ordering_reverse}
-use Rattle.std.specs.declared.cmp.Ordering.{Ordering}
-use Rattle.std.specs.declared.cmp.Ordering.TheVariants.{Less, Equal, Greater}
+use Rattle.std.specs.Ordering.{eq_by_cmp, is_lt}
 use Rattle.std.specs.Cmp.{eq_by_cmp_equiv}
 use Rattle.std.specs.Cmp.Lexicographic.{nat_list_cmp_total}
 use Rattle.std.specs.FinMap as finite
@@ -22,6 +20,7 @@ use Rattle.image.specs.Headers.{EachKeyOnce, map_of, of_captured}
 use Rattle.image.specs.declared.images.Kind.{Kind}
 use Rattle.image.specs.declared.images.Kind.TheVariants.{Full, Partial}
 use Rattle.image.specs.declared.limits.TheConstants.{ENTRIES}
+use Rattle.procedure.proofs.Sorting.{less, shifted}
 use Rattle.image.proofs.Rising.{by_bytes, both, find_at, is_less, steps_up, steps_up-is_sorted}
 use Rattle.image.proofs.Joins.{is_true, same_key}
 
@@ -152,14 +151,6 @@ all_new m (d ∷ es) e =
 
 distinct : (es : List Entry) → EachKeyOnce es → IsDistinct same (keys_of es)
 distinct es once = let none = len-empty by_bytes Cell in (all_new finite.empty es (omega arith)).0
-
-less : (r : Ordering) → is_lt (ordering_reverse r) ≡ false → is_eq r ≡ false → r ≡ Less
-less Less a b = refl
-less Equal a b = absurd (true≢false b)
-less Greater a b = absurd (true≢false a)
-
-shifted : (k : ℕ) → suc k + 1 ≡ suc (k + 1)
-shifted k = omega arith
 
 rising : (ys : List Entry) → IsSortedByKey (λ (e : Entry). e.0) by_bytes ys → IsDistinct same (keys_of ys) → T (steps_up ys)
 rising [] sorted apart = tt

@@ -1,15 +1,14 @@
 //! An image in two parts: a header, and entries in the order in which they were captured.
 
 ghost use Rattle.std.specs.Prelude.{◌≡◌, ◌≢◌, Err, IfOk, OnOk, length};
-ghost use Rattle.std.specs.FinMap as finite;
 ghost use Rattle.byteorder.specs.Endian.{big_bytes};
-ghost use Rattle.image.specs.Headers.{FitsHeader, assembled, chain_digest, linked, map_of};
+ghost use Rattle.image.specs.Headers.{FitsHeader, assembled, chain_digest, linked};
 ghost use Rattle.image.specs.declared.headers.AssembleError.TheVariants as refused;
 
 use crate::entries::Entry;
 use crate::images::{Image, Kind};
 use byteorder::{BigEndian, ByteOrder};
-use procedure::{Changes, Key, NoMemory, Sequence, Value};
+use procedure::NoMemory;
 use sha2::{Digest, Sha256};
 use std::alloc::{AllocError, Allocator};
 use std::error::Error;
@@ -118,55 +117,17 @@ fn chain_of<A: Allocator>(entries: &[Entry<A>]) -> [u8; 32]
     chain
 }
 
-fn copy_of_pair<A: Allocator + Clone>(
-    entry: &Entry<A>,
-) -> Result<(Key, Option<Value<A>>), AllocError>
-    ensures { IfOk result (λ p. p ≡ entry.now) }
-{
-    Ok((entry.key, entry.cell.clone()?))
-}
-
-fn copy_of_pairs<A: Allocator + Clone>(
+fn copy_of<A: Allocator + Clone>(
     alloc: A,
     entries: &[Entry<A>],
-) -> Result<Vec<(Key, Option<Value<A>>), A>, NoMemory>
-    ensures { IfOk result (λ pairs. pairs.items ≡ entries.now) }
+) -> Result<Vec<Entry<A>, A>, AllocError>
+    ensures { IfOk result (λ copy. copy.items ≡ entries.now) }
 {
-    let mut copy = Vec::new(alloc);
+    let mut copy = Vec::with_capacity(alloc, entries.len())?;
     for entry in entries {
-        copy.push(copy_of_pair(entry)?)?;
+        copy.push(entry.clone()?)?;
     }
     Ok(copy)
-}
-
-fn entries_of_pairs<A: Allocator>(
-    alloc: A,
-    pairs: Vec<(Key, Option<Value<A>>), A>,
-) -> Result<Vec<Entry<A>, A>, AllocError>
-    ensures { IfOk result (λ entries. entries.items ≡ pairs.items) }
-{
-    pairs
-        .into_iter()
-        .map(|pair| Entry {
-            key: pair.0,
-            cell: pair.1,
-        })
-        .collect(alloc)
-}
-
-/// A map of copies of the entries. Of two with the same key the later is left.
-fn mapped<A: Allocator + Clone>(alloc: A, entries: &[Entry<A>]) -> Result<Changes<A>, NoMemory>
-    ensures { IfOk result (λ m. m ≡ map_of entries.now) }
-{
-    let pairs = Sequence::new(copy_of_pairs(alloc.clone()?, entries)?);
-    Changes::from_pairs(alloc, pairs)
-}
-
-fn sorted<A: Allocator + Clone>(alloc: A, map: Changes<A>) -> Result<Vec<Entry<A>, A>, NoMemory>
-    ensures { IfOk result (λ es. es.items ≡ finite.entries map) }
-{
-    let pairs = map.into_pairs(alloc.clone()?)?.into_vec();
-    Ok(entries_of_pairs(alloc, pairs)?)
 }
 
 /// The image of a header and its entries. The digest is compared in the order in which they are
@@ -185,18 +146,8 @@ pub fn assemble<A: Allocator + Clone>(
     if header.count != entries.len() || header.chain != chain_of(entries) {
         return Err(AssembleError::BadForm);
     }
-    let map = mapped(alloc.clone()?, entries)?;
-    if map.len() != entries.len() {
-        return Err(AssembleError::BadForm);
-    }
-    let sorted = sorted(alloc, map)?;
-    match Image::new(
-        header.kind,
-        header.number,
-        header.base,
-        header.place,
-        sorted,
-    ) {
+    let copy = copy_of(alloc, entries)?;
+    match Image::captured(header.kind, header.number, header.base, header.place, copy) {
         Some(image) => Ok(image),
         None => Err(AssembleError::BadForm),
     }

@@ -8,7 +8,8 @@ use Rattle.procedure.proofs.Base.{keys}
 use Rattle.locktable.specs.Modes.{Mode}
 use Rattle.locktable.specs.Locks.{Locks, locks_of, mode_of, with_entry, with_lock}
 use Rattle.locktable.specs.Changes.{ChangesOneLock, ReleasesOneSession}
-use Rattle.locktable.proofs.Lookups.{by_bytes, get-with_entry_same, get-with_entry_other}
+use Rattle.procedure.proofs.Maps.{by_bytes}
+use Rattle.locktable.proofs.Lookups.{get-with_entry_same, get-with_entry_other}
 use Rattle.locktable.proofs.Tables.{mode_of-set}
 
 other_key : (locks : Locks) (session : ℕ) (key : Bytes) (mode : Option Mode) → session < length locks → (s : ℕ) (k : Bytes) → k ≢ key →

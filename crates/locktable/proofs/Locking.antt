@@ -8,7 +8,7 @@ use Rattle.procedure.specs.Bytes.{Bytes}
 use Rattle.procedure.specs.Table.{KeyMap}
 use Rattle.locktable.specs.Modes.{Mode}
 use Rattle.locktable.specs.Locks.{Locks, locks_of, mode_of, with_lock, without_locks}
-use Rattle.locktable.proofs.Lookups.{by_bytes}
+use Rattle.procedure.proofs.Maps.{by_bytes}
 
 -- one lock goes, and then all
 pub without_after : (locks : Locks) (s : ℕ) (k : Bytes) → without_locks (with_lock locks s k None) s ≡ without_locks locks s

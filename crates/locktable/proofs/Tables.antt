@@ -7,14 +7,14 @@ use Rattle.std.specs.List.{IsDistinct, list_any}
 use Rattle.procedure.specs.Bytes.{Bytes, same}
 use Rattle.procedure.specs.Table.{KeyMap}
 use Rattle.procedure.proofs.Base.{keys, same_keys}
-use Rattle.procedure.proofs.Maps.{same_key_map}
+use Rattle.procedure.proofs.Maps.{by_bytes, same_key_map}
 use Rattle.locktable.specs.declared.holders.Holders.{Holders}
 use Rattle.locktable.specs.declared.holders.Holders.TheVariants.{Readers, Writer}
 use Rattle.locktable.specs.Modes.{Mode, Shared, Exclusive}
 use Rattle.locktable.specs.Locks.{Conflicts, IsConsistent, IsFree, Locks, locks_of, mode_of, with_entry, with_lock}
 use Rattle.locktable.specs.Holders.{mode_in, mode_among, Refuses}
 use Rattle.locktable.specs.Tables.{IsSound, SetsMode, locks_from, locks_in, modes_among}
-use Rattle.locktable.proofs.Lookups.{by_bytes, get-with_entry}
+use Rattle.locktable.proofs.Lookups.{get-with_entry}
 use Rattle.locktable.proofs.Setting.{moved}
 
 pub mode_of-set : (locks : Locks) (s : ℕ) (m : KeyMap Mode) (r : ℕ) (q : Bytes) → s < length locks → mode_of (slice_set locks s m) r q ≡ cond (eqb r s) (get m q) (mode_of locks r q)

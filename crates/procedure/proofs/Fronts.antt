@@ -102,17 +102,25 @@ stays_at : (args : List Bytes) (p : Progress) (found : Cell) (r : List Instructi
 stays_at args p found [] e = refl
 stays_at args p found (i ∷ is) e = absurd cc
 
+pub advanced_stays : (args : List Bytes) (p : Progress) (found : Cell) (c : ℕ) → ended p ≡ Some c → advanced args p found ≡ p
+unfolding advanced
+advanced_stays args p found c e = stays_at args p found p.rest (some_end (is_nil p.rest) p.outcome c e)
+
 pub alone_stays : (args : List Bytes) (t : Table) (p : Progress) (d : Changes) (c : ℕ) → ended p ≡ Some c → advanced_alone args t p d ≡ p
-unfolding advanced advanced_alone
-alone_stays args t p d c e = stays_at args p (seen_at d t (touch_of (next_need args p))) p.rest (some_end (is_nil p.rest) p.outcome c e)
+unfolding advanced_alone
+alone_stays args t p d c e = advanced_stays args p (seen_at d t (touch_of (next_need args p))) c e
 
 falls_at : (args : List Bytes) (p : Progress) (found : Cell) (r : List Instruction) → is_nil r ≡ false → length (advanced_at args p found r).rest < length r
 falls_at args p found [] e = absurd cc
 falls_at args p found (i ∷ is) e = let h = rest-did (effect i args p.registers found).ends is in omega arith
 
+pub advanced_falls : (args : List Bytes) (p : Progress) (found : Cell) → ended p ≡ None → length (advanced args p found).rest < length p.rest
+unfolding advanced
+advanced_falls args p found e = falls_at args p found p.rest (no_end (is_nil p.rest) p.outcome e)
+
 pub rest_falls : (args : List Bytes) (t : Table) (p : Progress) (d : Changes) → ended p ≡ None → length (advanced_alone args t p d).rest < length p.rest
-unfolding advanced advanced_alone
-rest_falls args t p d e = falls_at args p (seen_at d t (touch_of (next_need args p))) p.rest (no_end (is_nil p.rest) p.outcome e)
+unfolding advanced_alone
+rest_falls args t p d e = advanced_falls args p (seen_at d t (touch_of (next_need args p))) e
 
 -- what an instruction makes of its key is what its need says
 reading_becomes : (rs : List Cell) (r : ℕ) (k : Option Bytes) (found : Cell) → (reading rs r k found).becomes ≡ becomes_of (read_of k) found

@@ -2,11 +2,13 @@ pub mod Base
 pub mod Frame
 pub mod Ending
 pub mod Copies
+pub mod Carried
 pub mod Arithmetic
 pub mod Steps
 pub mod Faults
 pub mod KeyOrders
 pub mod Maps
+pub mod Sorting
 pub mod Results
 pub mod Slices
 pub mod Passes

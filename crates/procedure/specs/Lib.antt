@@ -6,6 +6,7 @@ pub mod Needs
 pub mod Procedures
 pub mod Runs
 pub mod Copies
+pub mod Carried
 pub mod Catalogs
 pub mod CatalogBytes
 pub mod Actions

@@ -3,14 +3,15 @@
 //! This is the plain program that tells what a call does: recovery runs on it, and the engine, which
 //! executes the instructions of many calls between one another, is measured by it.
 
-ghost use Rattle.std.specs.Prelude.{◌≡◌, ◌==◌, ◌↔◌, if◌then◌else◌, [], Contains, IfOk, List, IsTrue, OnOk, map, option_copied};
+ghost use Rattle.std.specs.Prelude.{◌≡◌, ◌==◌, ◌↔◌, ◌++◌, if◌then◌else◌, [], Contains, IfOk, List, IsTrue, OnOk, map, option_copied};
 ghost use Rattle.procedure.specs.Bytes.{Bytes, Cell};
-ghost use Rattle.procedure.specs.Copies.{run};
+ghost use Rattle.procedure.specs.Carried.{IsCarried, IsCarriedOut, advanced_on, change_on, changed, replaced};
+ghost use Rattle.procedure.specs.Copies.{held_in_copy, run};
 ghost use Rattle.procedure.specs.Fronts.{IsEnd, IsFront};
 ghost use Rattle.procedure.specs.Needs.{change_of, touch_of};
 ghost use Rattle.procedure.specs.Procedures.{Instruction};
 ghost use Rattle.procedure.specs.Runs.{advanced, advanced_alone, changes_alone, committed, ended, seen_at, whole};
-ghost use Rattle.procedure.specs.Table.{change_at, changed_or, no_changes, value_at, with_cell, with_cells, with_change_of};
+ghost use Rattle.procedure.specs.Table.{Table, change_at, changed_or, no_changes, value_at, with_cell, with_cells, with_change_of};
 
 use crate::instructions::Procedure;
 use crate::keys::Key;
@@ -145,7 +146,7 @@ fn run_machine<A: Allocator + Clone>(
 
 /// What a call that ended leaves changed.
 #[tactic(auto, unfolding(crate::specs::Table::no_changes))]
-fn kept<A: Allocator>(alloc: A, outcome: u8, changes: Changes<A>) -> Changes<A>
+fn kept<A: Allocator + Copy>(alloc: A, outcome: u8, changes: Changes<A>) -> Changes<A>
     ensures { result ≡ (if outcome == COMMITTED then changes else no_changes) }
 {
     if outcome == COMMITTED {
@@ -156,7 +157,7 @@ fn kept<A: Allocator>(alloc: A, outcome: u8, changes: Changes<A>) -> Changes<A>
 }
 
 /// Runs a procedure whole on a table that it only reads. A call that doesn't commit changes nothing.
-pub fn run_alone<A: Allocator + Clone>(
+pub fn run_alone<A: Allocator + Copy>(
     alloc: A,
     procedure: &Procedure<A>,
     args: Sequence<Value<A>, A>,
@@ -177,35 +178,136 @@ pub fn run_alone<A: Allocator + Clone>(
     })
 }
 
-fn set_cell<A: Allocator + Clone>(
+/// What a key of the table holds from now on. What it held goes back to the caller.
+fn replace<A: Allocator>(
     table: &mut Table<A>,
-    change: (Key, Option<Value<A>>),
-) -> Result<(), NoMemory>
-    ensures { OnOk result (table.new ≡ with_cell table.old change.0 change.1) }
+    key: Key,
+    cell: Option<Value<A>>,
+) -> Result<Option<Value<A>>, NoMemory>
+    ensures held { IfOk result (λ held. held ≡ value_at table.old key) }
+    ensures table { OnOk result (table.new ≡ with_cell table.old key cell) }
 {
-    let (key, cell) = change;
     match cell {
-        Some(value) => {
-            table.insert(key, value)?;
-        }
-        None => {
-            table.remove(&key);
-        }
+        Some(value) => table.insert(key, value),
+        None => Ok(table.remove(&key)),
     }
+}
+
+/// What the key of a need holds.
+fn held<'a, A: Allocator>(need: &Need<Value<A>>, table: &'a Table<A>) -> Option<&'a Value<A>>
+    ensures { option_copied result ≡ held_in_copy table.now (touch_of need.now) }
+{
+    match need {
+        Need::Read(key) | Need::Write(key, _) => table.get(key),
+        Need::Own | Need::Ended(_) => None,
+    }
+}
+
+/// Executes the instruction of this need, and returns the change that it makes.
+#[inline(always)]
+fn fed_on<A: Allocator + Clone>(
+    machine: &mut Machine<A>,
+    table: &Table<A>,
+    need: Need<Value<A>>,
+) -> Result<Option<(Key, Option<Value<A>>)>, NoMemory>
+    ensures machine { OnOk result (machine.new ≡ record machine.old {
+      progress = advanced machine.old.args machine.old.progress (held_in_copy table.now (touch_of need));
+    }) }
+    ensures change { IfOk result (λ change. change ≡ change_of need (held_in_copy table.now (touch_of need))) }
+{
+    let found = held(&need, table);
+    let change = match need {
+        Need::Write(key, update) => match update.becomes(found) {
+            Some(cell) => Some((key, cell)),
+            None => None,
+        },
+        Need::Read(_) | Need::Own | Need::Ended(_) => None,
+    };
+    machine.fed(found)?;
+    Ok(change)
+}
+
+/// Makes a change, and notes what it replaces.
+#[inline(always)]
+fn make<A: Allocator>(
+    table: &mut Table<A>,
+    before: &mut Vec<(Key, Option<Value<A>>), A>,
+    change: Option<(Key, Option<Value<A>>)>,
+) -> Result<(), NoMemory>
+    ensures table { OnOk result (table.new ≡ changed table.old change) }
+    ensures before { OnOk result (before.new.items ≡ before.old.items ++ replaced table.old change) }
+{
+    let Some((key, cell)) = change else {
+        return Ok(());
+    };
+    before.reserve(1)?;
+    let held = replace(table, key, cell)?;
+    before.push_reserved((key, held));
     Ok(())
 }
 
-/// Applies the changes from the last key to the first.
-fn apply_pairs<A: Allocator + Clone>(
+/// Executes one instruction on the table, or returns the outcome of a call that has ended.
+#[inline(always)]
+#[tactic(auto, unfolding(crate::specs::Carried::advanced_on, crate::specs::Carried::change_on))]
+fn step_on<A: Allocator + Clone>(
+    machine: &mut Machine<A>,
+    table: &mut Table<A>,
+    before: &mut Vec<(Key, Option<Value<A>>), A>,
+) -> Result<Option<u8>, NoMemory>
+    ensures outcome { IfOk result (λ o. o ≡ ended machine.old.progress) }
+    ensures args { OnOk result (machine.new.args ≡ machine.old.args) }
+    ensures progress { OnOk result (machine.new.progress ≡ advanced_on machine.old.args table.old machine.old.progress) }
+    ensures table { OnOk result (table.new ≡ changed table.old (change_on machine.old.args table.old machine.old.progress)) }
+    ensures before { OnOk result (before.new.items ≡ before.old.items ++ replaced table.old (change_on machine.old.args table.old machine.old.progress)) }
+{
+    let need = machine.next()?;
+    if let Need::Ended(outcome) = need {
+        return Ok(Some(outcome));
+    }
+    let change = fed_on(machine, table, need)?;
+    make(table, before, change)?;
+    Ok(None)
+}
+
+/// Executes a machine on the table to its end, and returns the outcome.
+fn carry_out<A: Allocator + Clone>(
+    machine: &mut Machine<A>,
+    table: &mut Table<A>,
+    before: &mut Vec<(Key, Option<Value<A>>), A>,
+) -> Result<u8, NoMemory>
+    ensures { IfOk result (λ o. (code : List Instruction) (t : Table) → IsCarried code machine.old.args t machine.old table.old before.old.items →
+        IsCarriedOut code machine.old.args t machine.new table.new before.new.items o) }
+{
+    loop {
+        if let Some(outcome) = step_on(machine, table, before)? {
+            return Ok(outcome);
+        }
+    }
+}
+
+/// Puts back what a write replaced.
+fn put_back<A: Allocator>(
+    table: &mut Table<A>,
+    was: (Key, Option<Value<A>>),
+) -> Result<(), NoMemory>
+    ensures { OnOk result (table.new ≡ with_cell table.old was.0 was.1) }
+{
+    let (key, cell) = was;
+    replace(table, key, cell)?;
+    Ok(())
+}
+
+/// Puts back what writes replaced, from the last to the first.
+fn undo<A: Allocator>(
     table: Table<A>,
-    pairs: Vec<(Key, Option<Value<A>>), A>,
+    before: Vec<(Key, Option<Value<A>>), A>,
 ) -> Result<Table<A>, NoMemory>
-    ensures { IfOk result (λ t. t ≡ with_cells table pairs.items) }
+    ensures { IfOk result (λ t. t ≡ with_cells table before.items) }
 {
     let mut table = table;
-    let mut pairs = pairs;
-    while let Some(change) = pairs.pop() {
-        set_cell(&mut table, change)?;
+    let mut before = before;
+    while let Some(was) = before.pop() {
+        put_back(&mut table, was)?;
     }
     Ok(table)
 }
@@ -219,9 +321,27 @@ fn keys_of<A: Allocator>(
     pairs.iter().map(|pair| pair.0).collect(alloc)
 }
 
-/// Runs a procedure whole on a table: what the definition of a run says, carried out. It costs the
-/// size of the procedure and, for each touched key, the logarithm of the table. With a refusal the
-/// table is given up; `run_alone` leaves it.
+/// The table that a call leaves, and the keys that it wrote: none of a call that doesn't commit.
+fn settled<A: Allocator>(
+    alloc: A,
+    outcome: u8,
+    table: Table<A>,
+    before: Vec<(Key, Option<Value<A>>), A>,
+) -> Result<(Table<A>, Vec<Key, A>), NoMemory>
+    ensures table { IfOk result (λ r. r.0 ≡ (if outcome == COMMITTED then table else with_cells table before.items)) }
+    ensures written { IfOk result (λ r. r.1.items ≡ (if outcome == COMMITTED then map (λ p. p.0) before.items else [])) }
+{
+    if outcome == COMMITTED {
+        let written = keys_of(alloc, before.as_slice())?;
+        Ok((table, written))
+    } else {
+        Ok((undo(table, before)?, Vec::new(alloc)))
+    }
+}
+
+/// Runs a procedure whole on a table: what the definition of a run says, carried out. It writes into the
+/// table, and puts back what it replaced where the call doesn't commit. It costs the size of the
+/// procedure, whatever the table's. With a refusal the table is given up; `run_alone` leaves it.
 pub fn run_whole<A: Allocator + Clone>(
     alloc: A,
     procedure: &Procedure<A>,
@@ -233,18 +353,16 @@ pub fn run_whole<A: Allocator + Clone>(
     ensures table { IfOk result (λ f. f.table ≡ (run procedure.now.code args table).table) }
     ensures written { IfOk result (λ f. (q : Bytes) → Contains f.written q ↔ IsTrue ((run procedure.now.code args table).written q)) }
 {
-    let Alone {
-        outcome,
-        replies,
-        changes,
-    } = run_alone(alloc.clone()?, procedure, args, &table)?;
-    let pairs = changes.into_pairs(alloc.clone()?)?.into_vec();
-    let written = Sequence::new(keys_of(alloc, pairs.as_slice())?);
-    let table = apply_pairs(table, pairs)?;
+    let mut machine = Machine::start(alloc.clone()?, procedure, args)?;
+    let mut table = table;
+    let mut before = Vec::new(alloc.clone()?);
+    let outcome = carry_out(&mut machine, &mut table, &mut before)?;
+    let (_, replies) = machine.into_parts();
+    let (table, written) = settled(alloc, outcome, table, before)?;
     Ok(Finished {
         outcome,
         replies,
         table,
-        written,
+        written: Sequence::new(written),
     })
 }

@@ -1,28 +1,31 @@
-//! Maps in the byte order of their keys: tables, and the changes of a call.
+//! Maps by key: tables, and the changes of a call.
 
-ghost use Rattle.std.specs.Prelude.{◌≡◌, ◌↔◌, IfOk, IsOk, IsSome, IsTrue, OnErr, OnOk, option_copied};
+ghost use Rattle.std.specs.Prelude.{◌≡◌, ◌↔◌, IfOk, IsOk, IsSome, IsTrue, OnErr, OnOk, nat_eq, option_copied};
 ghost use Rattle.std.specs.Ordering.{nat_cmp};
-ghost use Rattle.std.specs.Cmp.Lexicographic.{slice_cmp};
-ghost use Rattle.std.specs.BTreeMap.{IsOrdered};
+ghost use Rattle.std.specs.Cmp.Lexicographic.{pointwise, slice_cmp};
 ghost use Rattle.std.specs.FinMap as map;
 ghost use Rattle.std.specs.FinMap.Entries.{is_sorted};
-ghost use Rattle.std.specs.Map.Iter.{ShowsInOrder, deref_pair};
-ghost use Rattle.procedure.specs.Bytes.{Bytes};
+ghost use Rattle.std.specs.List.{IsDistinct};
+ghost use Rattle.std.specs.Map.{keys_of};
+ghost use Rattle.std.specs.List.Sorted.{IsPermutation, IsSortedByKey};
 ghost use Rattle.procedure.specs.Table.{with_pairs};
 
 use crate::keys::Key;
 use crate::memory::NoMemory;
 use crate::sequences::Sequence;
 use crate::values::Value;
+use indexmap::IndexMap;
 use std::alloc::{AllocError, Allocator};
-use std::collections::BTreeMap;
-use std::collections::btree_map::Iter;
+use std::hash::{BuildHasherDefault, FoldHasher};
 use std::marker::Model;
 
-/// A map from keys in their byte order, seen by contracts as a finite map.
+type Entries<V, A> = IndexMap<Key, V, BuildHasherDefault<FoldHasher>, A>;
+
+/// A hash map, seen by contracts as a finite map in the byte order of its keys. A look-up takes as long
+/// in a large map as in a small one. The room of keys that were removed is kept for others.
 #[derive(Debug, Drop)]
 pub struct KeyMap<V, A: Allocator> {
-    entries: BTreeMap<Key, V, A>,
+    entries: Entries<V, A>,
 }
 
 /// What each present key holds.
@@ -45,16 +48,18 @@ impl<V, A: Allocator> Model for KeyMap<V, A> {
     ghost view = { λ m. map.from_entries {R = slice_cmp nat_cmp} m.entries.entries };
 }
 
-impl<V, A: Allocator> KeyMap<V, A> {
+impl<V, A: Allocator + Copy> KeyMap<V, A> {
     /// The empty map, which takes no memory.
     pub fn new(alloc: A) -> Self
         ensures { result ≡ map.empty }
     {
         KeyMap {
-            entries: BTreeMap::new(alloc),
+            entries: IndexMap::new(alloc),
         }
     }
+}
 
+impl<V, A: Allocator> KeyMap<V, A> {
     pub fn len(&self) -> usize
         ensures { result ≡ map.len self.now }
     {
@@ -73,51 +78,11 @@ impl<V, A: Allocator> KeyMap<V, A> {
     {
         self.entries.get(key)
     }
-
-    /// The pairs, in the byte order of their keys.
-    pub fn iter(&self) -> Iter<'_, Key, V>
-        ensures pairs { result ≡ map.entries self.now }
-        ensures runs { ShowsInOrder (deref_pair {K = Bytes} {X = V}) }
-    {
-        self.entries.iter()
-    }
-}
-
-fn inserted<V: Drop, A: Allocator + Clone>(
-    alloc: A,
-    pairs: Vec<(Key, V), A>,
-) -> Result<KeyMap<V, A>, NoMemory>
-    ensures { IfOk result (λ m. m ≡ with_pairs map.empty pairs.items) }
-{
-    let mut made = KeyMap::new(alloc);
-    for (key, value) in pairs {
-        made.insert(key, value)?;
-    }
-    Ok(made)
-}
-
-fn collected<V: Drop, A: Allocator>(
-    alloc: A,
-    entries: BTreeMap<Key, V, A>,
-) -> Result<Vec<(Key, V), A>, AllocError>
-    ensures pairs { IfOk result (λ pairs. pairs.items ≡ entries.entries) }
-    ensures ordered { IsOrdered (slice_cmp nat_cmp) entries }
-{
-    entries.into_iter().collect(alloc)
 }
 
 impl<V: Drop, A: Allocator> KeyMap<V, A> {
-    /// What the key held goes back to the caller. It takes no memory.
-    pub fn remove(&mut self, key: &Key) -> Option<V>
-        ensures value { result ≡ map.get self.old key.now }
-        ensures removed { self.new ≡ map.remove self.old key.now }
-    {
-        self.entries.remove(key)
-    }
-}
-
-impl<V: Drop, A: Allocator + Clone> KeyMap<V, A> {
     /// What the key held before goes back to the caller. Only a new key takes memory.
+    #[inline(always)]
     pub fn insert(&mut self, key: Key, value: V) -> Result<Option<V>, NoMemory>
         ensures before { IfOk result (λ before. before ≡ map.get self.old key) }
         ensures ok { OnOk result (self.new ≡ map.insert self.old key value) }
@@ -127,18 +92,70 @@ impl<V: Drop, A: Allocator + Clone> KeyMap<V, A> {
         Ok(self.entries.insert(key, value)?)
     }
 
-    /// The map of these pairs. Of two with the same key the later counts.
-    pub fn from_pairs(alloc: A, pairs: Sequence<(Key, V), A>) -> Result<Self, NoMemory>
-        ensures value { IfOk result (λ m. m ≡ with_pairs map.empty pairs) }
-        ensures sorted { IsTrue (is_sorted (slice_cmp nat_cmp) pairs) → IfOk result (λ m. map.entries m ≡ pairs) }
+    /// What the key held goes back to the caller. It takes no memory.
+    pub fn remove(&mut self, key: &Key) -> Option<V>
+        ensures value { result ≡ map.get self.old key.now }
+        ensures removed { self.new ≡ map.remove self.old key.now }
     {
-        inserted(alloc, pairs.into_vec())
+        self.entries.swap_remove(key)
     }
 
     /// The pairs, in the byte order of their keys.
     pub fn into_pairs(self, alloc: A) -> Result<Sequence<(Key, V), A>, NoMemory>
         ensures { IfOk result (λ pairs. pairs ≡ map.entries self) }
     {
-        Ok(Sequence::new(collected(alloc, self.entries)?))
+        let mut pairs = collected(alloc, self.entries)?;
+        sort_by_keys(&mut pairs);
+        Ok(Sequence::new(pairs))
+    }
+}
+
+fn collected<V: Drop, A: Allocator>(
+    alloc: A,
+    entries: Entries<V, A>,
+) -> Result<Vec<(Key, V), A>, AllocError>
+    ensures pairs { IfOk result (λ pairs. pairs.items ≡ entries.entries) }
+    ensures once { IsDistinct (pointwise nat_eq) (keys_of entries.entries) }
+{
+    entries.into_iter().collect(alloc)
+}
+
+/// Puts pairs in the byte order of their keys, in place.
+fn sort_by_keys<V, A: Allocator>(pairs: &mut Vec<(Key, V), A>)
+    ensures moved { IsPermutation pairs.old.items pairs.new.items }
+    ensures in_order { IsSortedByKey (λ p. p.0) (slice_cmp nat_cmp) pairs.new.items }
+{
+    pairs.sort_unstable_by(|one, other| one.0.cmp(&other.0));
+}
+
+/// The empty map with room for so many keys.
+fn with_room<V, A: Allocator + Copy>(alloc: A, room: usize) -> Result<KeyMap<V, A>, AllocError>
+    ensures { IfOk result (λ m. m ≡ map.empty) }
+{
+    Ok(KeyMap {
+        entries: IndexMap::with_capacity(alloc, room)?,
+    })
+}
+
+fn inserted<V: Drop, A: Allocator + Copy>(
+    alloc: A,
+    pairs: Vec<(Key, V), A>,
+) -> Result<KeyMap<V, A>, NoMemory>
+    ensures { IfOk result (λ m. m ≡ with_pairs map.empty pairs.items) }
+{
+    let mut made = with_room(alloc, pairs.len())?;
+    for (key, value) in pairs {
+        made.insert(key, value)?;
+    }
+    Ok(made)
+}
+
+impl<V: Drop, A: Allocator + Copy> KeyMap<V, A> {
+    /// The map of these pairs. Of two with the same key the later counts.
+    pub fn from_pairs(alloc: A, pairs: Sequence<(Key, V), A>) -> Result<Self, NoMemory>
+        ensures value { IfOk result (λ m. m ≡ with_pairs map.empty pairs) }
+        ensures sorted { IsTrue (is_sorted (slice_cmp nat_cmp) pairs) → IfOk result (λ m. map.entries m ≡ pairs) }
+    {
+        inserted(alloc, pairs.into_vec())
     }
 }

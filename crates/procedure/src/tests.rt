@@ -143,12 +143,23 @@ pub(crate) fn table(alloc: Global, pairs: &[(u8, u64)]) -> Result<Table<Global>,
     Ok(Table::from_pairs(alloc, Sequence::new(made))?)
 }
 
+/// Whether the table holds the number at the key of the letter.
+fn holds_at(table: &Table<Global>, letter: u8, number: u64) -> bool {
+    match Key::new(&[letter]) {
+        Some(key) => match table.get(&key) {
+            Some(value) => value.as_number() == Some(number),
+            None => false,
+        },
+        None => false,
+    }
+}
+
 /// Whether the table holds these numbers, by keys of one letter, and nothing else.
 pub(crate) fn holds(table: &Table<Global>, pairs: &[(u8, u64)]) -> bool {
     table.len() == pairs.len()
-        && table.iter().zip(pairs).all(|((key, value), (letter, number))| {
-            key.as_bytes() == [*letter].as_slice() && value.as_number() == Some(*number)
-        })
+        && pairs
+            .iter()
+            .all(|(letter, number)| holds_at(table, *letter, *number))
 }
 
 /// The catalog of one procedure.

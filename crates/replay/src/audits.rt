@@ -99,7 +99,7 @@ fn audit_records<A: Allocator + Clone>(
 }
 
 /// What an audit returns for an opening and a log.
-fn audit_log<A: Allocator + Clone>(
+fn audit_log<A: Allocator + Copy>(
     alloc: A,
     catalog: &Catalog<A>,
     opening: &Image<A>,
@@ -114,7 +114,7 @@ fn audit_log<A: Allocator + Clone>(
     audit_records(&alloc, catalog, table, log.records, torn)
 }
 
-fn answer<A: Allocator + Clone>(
+fn answer<A: Allocator + Copy>(
     alloc: A,
     catalog: &Catalog<A>,
     opening: &Image<A>,
@@ -134,7 +134,7 @@ fn answer<A: Allocator + Clone>(
 /// one that may follow the token before it, and that each call, run whole on the table that those before
 /// it left, gives the outcome and replies that the log says. The first record at which one of these
 /// fails is answered, of one record in this order.
-pub fn audit<A: Allocator + Clone>(
+pub fn audit<A: Allocator + Copy>(
     alloc: A,
     catalog: &Catalog<A>,
     opening: &Image<A>,

@@ -187,7 +187,7 @@ pub(crate) fn is_torn(ending: Ending) -> bool
 }
 
 /// What is recovered from an image and a log.
-fn recover_log<A: Allocator + Clone>(
+fn recover_log<A: Allocator + Copy>(
     alloc: A,
     catalog: &Catalog<A>,
     image: Image<A>,
@@ -205,7 +205,7 @@ fn recover_log<A: Allocator + Clone>(
 }
 
 /// What is recovered from images that were put together and a log.
-fn answer_to<A: Allocator + Clone>(
+fn answer_to<A: Allocator + Copy>(
     alloc: A,
     catalog: &Catalog<A>,
     image: Image<A>,
@@ -218,7 +218,7 @@ fn answer_to<A: Allocator + Clone>(
     recover_log(alloc, catalog, image, &log)
 }
 
-fn answer<A: Allocator + Clone>(
+fn answer<A: Allocator + Copy>(
     alloc: A,
     catalog: &Catalog<A>,
     images: &[Image<A>],
@@ -230,7 +230,7 @@ fn answer<A: Allocator + Clone>(
     answer_to(alloc, catalog, image, log_bytes)
 }
 
-fn answer_in_turn<A: Allocator + Clone>(
+fn answer_in_turn<A: Allocator + Copy>(
     alloc: A,
     catalog: &Catalog<A>,
     merger: Merger<A>,
@@ -246,13 +246,13 @@ fn answer_in_turn<A: Allocator + Clone>(
 /// The table after a log's whole records: images that stand on one another are put together, and the
 /// calls that they don't cover are run again, each on the table that those before it left. The log is
 /// checked first, and then each record that is not covered is made when its turn comes. A call costs what
-/// it touches times the logarithm of the table.
+/// it executes, whatever the size of the table.
 ///
 /// The image of number 0 is the one that the log began with, spelled in the image format of the log's
 /// version; at the place of any other stands the token by which its checkpoint was cut. A call that
 /// gives something else than the log says is refused with its place, so nothing is trusted but the
 /// images and which calls there were.
-pub fn recover<A: Allocator + Clone>(
+pub fn recover<A: Allocator + Copy>(
     alloc: A,
     catalog: &Catalog<A>,
     images: &[Image<A>],
@@ -271,7 +271,7 @@ pub fn recover<A: Allocator + Clone>(
 
 /// As `recover`, from images that came one after another, so that none of them is kept but in what the
 /// merger has of all.
-pub fn recover_in_turn<A: Allocator + Clone>(
+pub fn recover_in_turn<A: Allocator + Copy>(
     alloc: A,
     catalog: &Catalog<A>,
     merger: Merger<A>,

@@ -41,7 +41,7 @@ fn copy_of_entries<A: Allocator + Clone>(
     Ok(copy)
 }
 
-fn table_with<A: Allocator + Clone>(
+fn table_with<A: Allocator + Copy>(
     alloc: A,
     entries: Vec<Entry<A>, A>,
 ) -> Result<Table<A>, NoMemory>
@@ -52,7 +52,7 @@ fn table_with<A: Allocator + Clone>(
 }
 
 /// What the image holds, by move.
-pub(crate) fn into_table<A: Allocator + Clone>(
+pub(crate) fn into_table<A: Allocator + Copy>(
     alloc: A,
     image: Image<A>,
 ) -> Result<Table<A>, NoMemory>
@@ -65,7 +65,7 @@ pub(crate) fn into_table<A: Allocator + Clone>(
 }
 
 /// What the image holds, copied.
-pub(crate) fn copy_of_table<A: Allocator + Clone>(
+pub(crate) fn copy_of_table<A: Allocator + Copy>(
     alloc: A,
     image: &Image<A>,
 ) -> Result<Table<A>, NoMemory>

@@ -1,6 +1,5 @@
-use Rattle.std.proofs.Common.{List, refl, sym, ap, subst, ◌∙◌}
-use Rattle.std.specs.FinMap as finite
-use Rattle.procedure.specs.Table.{Changes}
+use Rattle.std.proofs.Common.{List, refl, sym, subst, ◌∙◌}
+use Rattle.image.specs.Headers.{EachKeyOnce, assembled}
 use Rattle.image.specs.Images.{Entry, IsLawfulImage}
 use Rattle.image.proofs.Digests.{alike, differ}
 use Rattle.image.proofs.headers.assemble.Goals as goal
@@ -16,11 +15,10 @@ returns-then-header-entries-clause-bad_form g c = λ _ fits.
 pub returns-in-Some-clause-fits : goal.returns-in-Some-clause-fits
 returns-in-Some-clause-fits g c =
     let h = c.args.header.now in
+    let lawful = subst (λ (es : List Entry). EachKeyOnce es × IsLawfulImage (assembled h es)) c.in_ok-copy.ensures (c.in-Some.ensures.lawful.0 refl) in
     record {
       count = c.if-header-entries.false;
       chain = alike h.chain c.chain_of.result (sym c.ne.ensures ∙ c.if-ne.false) ∙ c.chain_of.ensures;
-      once = ap (λ (m : Changes). finite.len m) (sym c.in_ok-map.ensures) ∙ sym c.len.ensures ∙ c.if-len-entries.false;
-      lawful =
-          subst (λ (es : List Entry). IsLawfulImage (record { kind = h.kind; number = h.number; base = h.base; place = h.place; entries = es }))
-          (c.in_ok-sorted.ensures ∙ ap (λ (m : Changes). finite.entries m) c.in_ok-map.ensures) (c.in-Some.ensures.lawful.0 refl);
+      once = lawful.0;
+      lawful = lawful.1;
     }

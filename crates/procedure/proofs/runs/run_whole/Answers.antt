@@ -1,36 +1,23 @@
-use Rattle.std.proofs.Common.{◌≡◌, map, ◌∙◌, sym, ap, subst, Contains, IsTrue}
-use Rattle.std.specs.FinMap.{entries}
+use Rattle.std.proofs.Common.{List, ◌∙◌, sym, ap, subst}
 use Rattle.procedure.specs.Bytes.{Bytes, Cell}
-use Rattle.procedure.specs.Table.{Changes, merged, with_cells}
-use Rattle.procedure.specs.Runs.{whole, committed}
-use Rattle.procedure.proofs.Base.{with_cells-entries}
-use Rattle.procedure.proofs.Copies.{whole_is_run}
-use Rattle.procedure.proofs.Maps.{Contains-keys}
+use Rattle.procedure.specs.Runs.{Execution}
+use Rattle.procedure.specs.Carried.{IsCarried, IsCarriedOut}
+use Rattle.procedure.proofs.Carried.{carried_start, kept_keys, kept_table, same_outcome, same_replies}
 use Rattle.procedure.proofs.runs.run_whole.Goals as goal
 
-pub returns-clause-outcome : goal.returns-clause-outcome
-returns-clause-outcome g c = c.in_ok-outcome.ensures.outcome ∙ (whole_is_run c.args.procedure.now.code c.args.args c.args.table).outcome
-
-pub returns-clause-replies : goal.returns-clause-replies
-returns-clause-replies g c = c.in_ok-outcome.ensures.replies ∙ (whole_is_run c.args.procedure.now.code c.args.args c.args.table).replies
-
-pub returns-clause-table : goal.returns-clause-table
-returns-clause-table g c =
-    c.in_ok-table.ensures
-    ∙ ap (with_cells c.args.table) (c.into_vec-pairs.ensures ∙ c.in_ok-into_pairs.ensures)
-    ∙ with_cells-entries c.args.table _
-    ∙ ap (merged c.args.table) c.in_ok-outcome.ensures.changes
-    ∙ (whole_is_run c.args.procedure.now.code c.args.args c.args.table).table
-
-pub returns-clause-written : goal.returns-clause-written
-returns-clause-written g c =
-    λ q.
-    let law = whole_is_run c.args.procedure.now.code c.args.args c.args.table in
-    let done : Changes = committed (whole c.args.procedure.now.code c.args.args c.args.table) in
-    let keys : c.new-written.result ≡ map (λ (e : Bytes × Cell). e.0) (entries done) =
-    c.new-written.ensures ∙ c.in_ok-keys_of.ensures
-    ∙ ap (map (λ (e : Bytes × Cell). e.0)) (c.as_slice.ensures.value ∙ c.into_vec-pairs.ensures ∙ c.in_ok-into_pairs.ensures ∙ ap entries c.in_ok-outcome.ensures.changes) in
-    let has = Contains-keys done q in (
-      λ h. subst IsTrue (law.written q) (has.0 (subst (λ ks. Contains ks q) keys h)),
-      λ h. subst (λ ks. Contains ks q) (sym keys) (has.1 (subst IsTrue (sym (law.written q)) h)),
-    )
+pub returns : goal.returns
+returns g c =
+    let code = c.args.procedure.now.code in
+    let t = c.args.table in
+    let x = c.in_ok-machine.machine in
+    let y = c.carry_out.new.machine in
+    let u = c.carry_out.new.table in
+    let before = c.carry_out.new.before.items in
+    let start = subst (λ (b : List (Bytes × Cell)). IsCarried code x.args t x t b) (sym c.new-before.ensures.items) (carried_start code c.args.args t x c.in_ok-machine.ensures) in
+    let end = subst (λ (a : List Bytes). IsCarriedOut code a t y u before c.in_ok-outcome.outcome) (ap (λ (z : Execution). z.args) c.in_ok-machine.ensures) (c.in_ok-outcome.ensures code t start) in
+    record {
+      outcome = same_outcome code c.args.args t y u before c.in_ok-outcome.outcome end;
+      replies = c.into_parts-replies.ensures.replies ∙ same_replies code c.args.args t y u before c.in_ok-outcome.outcome end;
+      table = kept_table code c.args.args t y u c.in_ok-table.table before c.in_ok-outcome.outcome end c.in_ok-table.ensures.table;
+      written = kept_keys code c.args.args t y u before c.in_ok-outcome.outcome c.new.result end (c.new.ensures ∙ c.in_ok-table.ensures.written);
+    }

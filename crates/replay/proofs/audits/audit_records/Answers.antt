@@ -5,7 +5,7 @@ use Rattle.replay.specs.Parts.{AreAudited}
 use Rattle.replay.specs.Replays.{calls_in}
 use Rattle.replay.specs.Orders.{IsInOrder}
 use Rattle.replay.specs.declared.errors.AuditError.{AuditError}
-use Rattle.replay.proofs.Auditing.{PassSoFar, none_yet, disorder, fails, pass_on, counts}
+use Rattle.replay.proofs.Auditing.{PassSoFar, all_pass, none_yet, disorder, fails, pass_on, counts}
 use Rattle.replay.proofs.Reruns.{one_call}
 use Rattle.replay.proofs.audits.audit_records.Goals as goal
 
@@ -60,3 +60,10 @@ returns-in-Err g c =
     let in_order = (c.admits.ensures s.done s.order).0 admitted in
     subst (λ (e : AuditError). AreAudited c.args.catalog.now c.args.table c.args.records c.args.torn (Err e)) (sym c.refusal_at.ensures)
     (fails c.args.catalog.now c.args.table c.args.records here left l.table l.order l.calls l.place s in_order c.args.torn c.in-Err.stopped c.in-Err.ensures)
+
+pub returns : goal.returns
+returns g c =
+    let l = c.loop-table in
+    let none = rw c.in_default.is at c.in_ok-made.ensures.next in
+    all_pass c.args.catalog.now c.args.table c.args.records l.table l.order l.calls l.place c.args.torn
+    (subst (λ (x : List Record). PassSoFar c.args.catalog.now c.args.table c.args.records x l.table l.order l.calls l.place) none.0 l.invariant)

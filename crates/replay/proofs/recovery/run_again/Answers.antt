@@ -4,7 +4,7 @@ use Rattle.commitlog.specs.Records.{Record, record_of}
 use Rattle.replay.specs.Parts.{RunAgain}
 use Rattle.replay.specs.Replays.{calls_in}
 use Rattle.replay.specs.declared.errors.RecoverError.{RecoverError}
-use Rattle.replay.proofs.Reruns.{SoFar, at_first, counts, one_call, run_on, stops}
+use Rattle.replay.proofs.Reruns.{SoFar, at_first, counts, ends, one_call, run_on, stops}
 use Rattle.replay.proofs.recovery.run_again.Goals as goal
 
 pub loop-table-init : goal.loop-table-init
@@ -53,3 +53,10 @@ returns-in-Err g c =
     (told ∙ ap (λ (r : Record). r ∷ left) (sym c.into_entry-entry.ensures.value)) l.invariant in
     subst (λ (e : RecoverError). RunAgain c.args.catalog.now c.args.table c.args.from c.args.records.now c.args.torn (Err e)) (sym c.refusal_at.ensures)
     (stops c.args.catalog.now c.args.table c.args.from c.args.records.now here left l.table l.calls l.place s c.args.torn c.in-Err.stopped c.in-Err.ensures)
+
+pub returns : goal.returns
+returns g c =
+    let l = c.loop-table in
+    let none = rw c.in_default.is at c.in_ok-made.ensures.next in
+    ends c.args.catalog.now c.args.table c.args.from c.args.records.now l.table l.calls l.place c.args.torn
+    (subst (λ (x : List Record). SoFar c.args.catalog.now c.args.table c.args.from c.args.records.now x l.table l.calls l.place) none.0 l.invariant)

@@ -1,5 +1,5 @@
 use Rattle.std.proofs.Common.{sym, ◌∙◌}
-use Rattle.locktable.proofs.Lookups.{get-view}
+use Rattle.procedure.proofs.Maps.{get-view}
 use Rattle.locktable.proofs.key_holders.KeyHolders.get.Goals as goal
 
 pub returns : goal.returns

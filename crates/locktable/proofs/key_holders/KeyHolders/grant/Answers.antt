@@ -12,7 +12,8 @@ use Rattle.locktable.specs.Locks.{with_entry}
 use Rattle.locktable.specs.Holders.{ChangesTo, Refuses, mode_among}
 use Rattle.locktable.specs.Modes.{stronger}
 use Rattle.locktable.specs.Tables.{with_key}
-use Rattle.locktable.proofs.Lookups.{at_key, get-view, index-with_entry, with_entry_same}
+use Rattle.procedure.proofs.Maps.{at_key, get-view}
+use Rattle.locktable.proofs.Lookups.{index-with_entry, with_entry_same}
 use Rattle.locktable.proofs.Setting.{granted_is_held, nobody_holds, nobody_refuses, not_conflict, sets_mode}
 use Rattle.locktable.proofs.key_holders.KeyHolders.grant.Goals as goal
 

@@ -7,7 +7,8 @@ use Rattle.locktable.specs.declared.holders.Holders.{Holders}
 use Rattle.locktable.specs.Locks.{with_entry}
 use Rattle.locktable.specs.Holders.{ChangesTo, mode_among}
 use Rattle.locktable.specs.Modes.{IsAtMost}
-use Rattle.locktable.proofs.Lookups.{at_key, at_some, get-view, index-with_entry, stored_key}
+use Rattle.procedure.proofs.Maps.{at_key, get-view}
+use Rattle.locktable.proofs.Lookups.{at_some, index-with_entry, stored_key}
 use Rattle.locktable.proofs.Setting.{if_some, sets_mode, sets_nothing}
 use Rattle.locktable.proofs.key_holders.KeyHolders.weaken.Goals as goal
 

@@ -1,23 +1,17 @@
-use Rattle.std.proofs.Common.{◌≡◌, None, IsSome, subst, sym, ◌∙◌, ap}
+use Rattle.std.proofs.Common.{IsSome, subst, sym, ◌∙◌, ap}
 use Rattle.std.proofs.lemmas.Bool.{false≢true}
-use Rattle.std.specs.FinMap.{get, insert}
+use Rattle.std.specs.FinMap.{insert}
 use Rattle.procedure.specs.Table.{KeyMap}
-use Rattle.procedure.proofs.Maps.{get-map_of, map_of-insert}
+use Rattle.procedure.proofs.Maps.{get-view, map_of-insert}
 use Rattle.procedure.proofs.tables.KeyMap.insert.Goals as goal
 
 pub returns-in_err-insert-clause-memory : goal.returns-in_err-insert-clause-memory
 returns-in_err-insert-clause-memory g c =
-    let absent : get c.args.self.now c.args.key ≡ None =
-    ap (λ (m : KeyMap g.row.V.Denot). get m c.args.key) (sym c.self.view_is)
-    ∙ get-map_of c.self.inside.entries.entries c.args.key
-    ∙ c.in_err-insert.ensures.absent in
+    let absent = get-view c.self.inside.entries.entries c.args.self.now c.self.view_is c.args.key ∙ c.in_err-insert.ensures.absent in
     λ present. absurd (false≢true (subst (λ o. IsSome o) absent present))
 
 pub returns-clause-before : goal.returns-clause-before
-returns-clause-before g c =
-    c.in_ok-insert.ensures.old
-    ∙ sym (get-map_of c.self.inside.entries.entries c.args.key)
-    ∙ ap (λ (m : KeyMap g.row.V.Denot). get m c.args.key) c.self.view_is
+returns-clause-before g c = c.in_ok-insert.ensures.old ∙ sym (get-view c.self.inside.entries.entries c.args.self.now c.self.view_is c.args.key)
 
 pub returns-clause-ok : goal.returns-clause-ok
 returns-clause-ok g c =

@@ -1,10 +1,10 @@
 use Rattle.image.proofs.Walks.{all_made, one_more}
-use Rattle.image.proofs.headers.copy_of_pairs.Goals as goal
+use Rattle.image.proofs.headers.copy_of.Goals as goal
 
 pub loop-entry-preserved : goal.loop-entry-preserved
 loop-entry-preserved g c =
     let l = c.loop-entry in
-    one_more c.args.entries.now l.entry-index c.entry-item.result c.in_ok-copy_of_pair.field-0 l.copy.items c.push.new.self.items c.loop-entry-test.true c.entry-item.is c.in_ok-copy_of_pair.ensures
+    one_more c.args.entries.now l.entry-index c.entry-item.result c.in_ok-clone.field-0 l.copy.items c.push.new.self.items c.loop-entry-test.true c.entry-item.is c.in_ok-clone.ensures.cases
     c.in_ok-push.ensures.items
     l.invariant
 

@@ -1,5 +1,5 @@
 use Rattle.std.proofs.Common.{◌≡◌, ◌++◌, drop}
-use Rattle.image.proofs.headers.copy_of_pairs.Given as goal
+use Rattle.image.proofs.headers.copy_of.Given as goal
 
 -- the copy so far and those left are all
 abbrev pub invariant-loop-entry : goal.invariant-loop-entry
