@@ -1,6 +1,6 @@
 -- Pairs of which no key comes twice: their entries in order are those of the table that they make.
-use Rattle.std.proofs.Common.{◌≡◌, ◌≤◌, ℕ, ◌+◌, Bool, true, false, cond, nat_lt, T, List, [], ◌∷◌, ◌++◌, length, Option, Some, None, Result, Ok, Err, is_some, ◌↔◌, refl, sym, ap, ◌∙◌, subst, option_map, arith}
-use Rattle.std.specs.Prelude.{◌&&◌, if◌then◌else◌, IfNone, IfSome, IsSome, is_none}
+use Rattle.std.proofs.Common.{◌≡◌, ◌≤◌, ℕ, ◌+◌, Bool, true, false, cond, nat_lt, List, [], ◌∷◌, ◌++◌, length, Option, Some, None, Result, Ok, Err, is_some, ◌↔◌, refl, sym, ap, ◌∙◌, subst, option_map, arith}
+use Rattle.std.specs.Prelude.{if◌then◌else◌, IfNone, IfSome, IsSome, is_none}
 use Rattle.std.specs.Ordering.{eq_by_cmp}
 use Rattle.std.specs.Cmp.Lexicographic.{nat_list_cmp_total}
 use Rattle.std.proofs.lemmas.List.{append-nil, append_assoc, length-append}
@@ -11,7 +11,7 @@ use Rattle.std.specs.FinMap.Entries.{same_entries}
 use Rattle.procedure.specs.Bytes.{Bytes, Cell}
 use Rattle.procedure.specs.Table.{Changes, Table, change_at, value_at, with_pairs}
 use Rattle.image.specs.Headers.{EachKeyOnce, map_of, of_captured}
-use Rattle.image.specs.Images.{Entry, Image, IsLawfulImage, entries_of, full_image}
+use Rattle.image.specs.Images.{Entry, Image, IsLawfulImage, entries_of}
 use Rattle.image.specs.declared.images.Kind.TheVariants.{Full}
 use Rattle.image.specs.declared.limits.TheConstants.{ENTRIES}
 use Rattle.image.proofs.Rising.{by_bytes}

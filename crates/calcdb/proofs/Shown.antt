@@ -5,20 +5,19 @@ use Rattle.std.proofs.KnownBytes.{Appends-nil}
 use Rattle.std.specs.Io.KnownBytes.{Appends}
 use Rattle.std.specs.Prelude.{IfErr, OnOk}
 use Rattle.procedure.specs.Bytes.{Bytes}
-use Rattle.commitlog.specs.LogReadings.{Damaged, IsReading, NotALog, Reading}
+use Rattle.commitlog.specs.LogReadings.{Damaged, IsReading, NotALog}
 use Rattle.commitlog.specs.Records.{Record}
 use Rattle.commitlog.specs.declared.decoding.LogError.{LogError}
 use Rattle.commitlog.specs.declared.decoding.LogError.TheVariants as log
 use Rattle.image.specs.Images.{Entry, Image}
 use Rattle.image.specs.Refusals.{IsAnswer, Refuses}
 use Rattle.image.specs.declared.errors.ReadError.{ReadError}
-use Rattle.image.specs.declared.errors.ReadError.TheVariants as read
 use Rattle.calcdb.specs.Outcomes.{fault_text}
 use Rattle.calcdb.specs.Output.{entries_text, entry_text, image_text, value_text}
 use Rattle.calcdb.specs.Reasons.{log_reason, read_reason}
 use Rattle.calcdb.specs.Refusing.{Declines, FailsAs, no_memory}
 use Rattle.calcdb.specs.Runs.{Sent}
-use Rattle.calcdb.specs.Showing.{AgreesWithPrint, BreaksOff, EndsShow, IsShowFault, PrintsImage, PrintsLog, StopsIn, arguments_text, of_image, of_reading, record_text, records_text}
+use Rattle.calcdb.specs.Showing.{AgreesWithPrint, BreaksOff, EndsShow, IsShowFault, PrintsImage, PrintsLog, StopsIn, arguments_text, of_image, record_text, records_text}
 use Rattle.procedure.specs.Streams.{IsBegun}
 use Rattle.calcdb.specs.declared.faults.Fault.{Fault}
 use Rattle.calcdb.specs.declared.faults.Fault.TheVariants as fault

@@ -1,5 +1,5 @@
 -- What a hash map by key has after a change.
-use Rattle.std.proofs.Common.{◌≡◌, inl, inr, false, cond, List, Option, Some, None, refl, sym, ap, ◌∙◌, nat_eq, subst, IfSome}
+use Rattle.std.proofs.Common.{◌≡◌, inl, inr, false, cond, List, Option, Some, None, sym, ap, ◌∙◌, nat_eq, subst, IfSome}
 use Rattle.std.proofs.lemmas.Map.Made.{lookup_key_passes}
 use Rattle.std.specs.Cmp.Lexicographic.{pointwise, nat_list_cmp_total}
 use Rattle.std.specs.FinMap.{get, get-insert, get-remove}
@@ -7,7 +7,7 @@ use Rattle.std.specs.Map.{lookup_key}
 use Rattle.procedure.specs.Bytes.{Bytes, same}
 use Rattle.procedure.specs.Table.{KeyMap}
 use Rattle.procedure.proofs.Base.{keys, same_keys, same_pointwise, same_refl}
-use Rattle.procedure.proofs.Maps.{at_key, get-map_of, map_of, map_of-insert, map_of-remove, same_key_map}
+use Rattle.procedure.proofs.Maps.{at_key, map_of, map_of-insert, map_of-remove, same_key_map}
 use Rattle.locktable.specs.Locks.{with_entry}
 
 -- the key that a hash map keeps is the one that was looked up

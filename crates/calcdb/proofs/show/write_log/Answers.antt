@@ -1,4 +1,4 @@
-use Rattle.std.proofs.Common.{◌≡◌, ◌++◌, [], inl, sym, ap}
+use Rattle.std.proofs.Common.{◌++◌, [], inl, sym, ap}
 use Rattle.std.proofs.lemmas.Result.{IfErr-weaker, err_from_is_err_and, on_ok_weaker}
 use Rattle.std.proofs.lemmas.List.{append-nil}
 use Rattle.calcdb.specs.Showing.{count_text, log_text, records_text}
