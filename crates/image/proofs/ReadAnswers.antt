@@ -241,11 +241,6 @@ second_judged b (Err e) second fits (inl read) = second_fails b e second fits re
 second_judged b (Err e) second fits (inr (is, es, read, bad)) =
     subst (λ (x : ReadError). Refuses x b) (sym is) (whole_second b es second fits read, bad_second b es second read bad)
 
--- bytes that spell an image aren't refused as none
-pub is_an_image : (b : Bytes) (i : Image) → IsAnswer b (Ok i) → Refuses refused.NotAnImage b → ⊥
-is_an_image b i (inl v) (no_1, no_2) = no_1 (first_again i b v).first
-is_an_image b i (inr w) (no_1, no_2) = no_2 (second_again i b w).second
-
 -- an image that bytes spell is lawful
 pub lawful_answer : (b : Bytes) (i : Image) → IsAnswer b (Ok i) → IsLawfulImage i
 lawful_answer b i (inl first) = first.0.lawful

@@ -8,7 +8,6 @@ ghost use Rattle.image.specs.declared.headers.AssembleError.TheVariants as refus
 use crate::entries::Entry;
 use crate::images::{Image, Kind};
 use byteorder::{BigEndian, ByteOrder};
-use procedure::NoMemory;
 use sha2::{Digest, Sha256};
 use std::alloc::{AllocError, Allocator};
 use std::error::Error;
@@ -60,17 +59,6 @@ impl From<AllocError> for AssembleError {
     ghost from_gives = { λ _ e. e ≡ refused.NoMemory };
 
     fn from(_refused: AllocError) -> Self {
-        AssembleError::NoMemory
-    }
-}
-
-impl From<NoMemory> for AssembleError {
-    ghost use Rattle.std.specs.Prelude.{◌≡◌};
-    ghost use Rattle.image.specs.declared.headers.AssembleError.TheVariants as refused;
-
-    ghost from_gives = { λ _ e. e ≡ refused.NoMemory };
-
-    fn from(_refused: NoMemory) -> Self {
         AssembleError::NoMemory
     }
 }

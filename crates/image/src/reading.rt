@@ -38,7 +38,6 @@ pub fn read_image<A: Allocator + Clone>(alloc: A, bytes: &[u8]) -> Result<Image<
     ensures answer { (result ≡ Err refused.NoMemory) ⊎ IsAnswer bytes.now result }
     ensures exact { (answer : Result SpecImage ReadError) → IsAnswer bytes.now answer → (result ≡ answer) ⊎ (result ≡ Err refused.NoMemory) }
     // What is wrong with the bytes is answered whatever memory there is.
-    ensures not_an_image { Refuses refused.NotAnImage bytes.now → result ≡ Err refused.NotAnImage }
     ensures refusal { (e : ReadError) → Refuses e bytes.now → result ≡ Err e }
 {
     let checked = check_image(bytes)?;
