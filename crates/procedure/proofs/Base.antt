@@ -63,6 +63,15 @@ value_at-merged t c q = value_at-with_cells t (map.entries c) q ∙ ap (λ o. ch
 pub same_table : (t u : Table) → ((q : Bytes) → value_at t q ≡ value_at u q) → t ≡ u
 same_table t u h = map.same_map nat_list_cmp_total (map.slice_cmp-IsAntisymmetric map.nat_cmp-IsAntisymmetric) t u h
 
+-- to remove what isn't there changes nothing
+pub remove_absent : (t : Table) (k : Bytes) → value_at t k ≡ None → with_cell t k None ≡ t
+unfolding same
+remove_absent t k absent = same_table _ _ (λ q. value_at-with t k None q ∙ stays q (same q k) (same_keys q k))
+  where
+    stays : (q : Bytes) (b : Bool) → (b ≡ true → q ≡ k) → cond b None (value_at t q) ≡ value_at t q
+    stays q true h = sym (ap (value_at t) (h refl) ∙ absent)
+    stays q false h = refl
+
 pub value_at-no_table : (q : Bytes) → value_at no_table q ≡ None
 unfolding no_table
 value_at-no_table q = map.get-empty (slice_cmp nat_cmp) q

@@ -208,13 +208,22 @@ module _ (code : List Instruction) (args : List Bytes) (t : Table) where
   unfolding run
   kept_table x u v before c end e = e ∙ (λ i. cond (end.outcome i == 0) (end.table i) (end.undone i))
 
-  pub kept_keys : (x : Execution) (u : Table) (before : List (Bytes × Cell)) (c : ℕ) (ks : List Bytes) → IsCarriedOut code args t x u before c → ks ≡ cond (c == 0) (map (λ e. e.0) before) [] →
-      (q : Bytes) → Contains ks q ↔ IsTrue ((run code args t).written q)
+  pub kept_keys : (x : Execution) (u : Table) (before : List (Bytes × Cell)) (c : ℕ) (es : List (Bytes × Cell)) → IsCarriedOut code args t x u before c → es ≡ cond (c == 0) before [] →
+      (q : Bytes) → Contains (map (λ e. e.0) es) q ↔ IsTrue ((run code args t).written q)
   unfolding run
-  kept_keys x u before c ks end e q =
-      subst (λ d. Contains ks q ↔ IsTrue (cond (d == 0) (carried_out args code (copy_of t)).written no_keys q)) end.outcome
-      (subst (λ (l : List Bytes). Contains l q ↔ IsTrue (cond (c == 0) (carried_out args code (copy_of t)).written no_keys q)) (sym e) (either (c == 0)))
+  kept_keys x u before c es end e q =
+      subst (λ d. Contains (map (λ e. e.0) es) q ↔ IsTrue (cond (d == 0) (carried_out args code (copy_of t)).written no_keys q)) end.outcome
+      (subst (λ (l : List (Bytes × Cell)). Contains (map (λ e. e.0) l) q ↔ IsTrue (cond (c == 0) (carried_out args code (copy_of t)).written no_keys q)) (sym e) (either (c == 0)))
     where
-      either : (b : Bool) → Contains (cond b (map (λ e. e.0) before) []) q ↔ IsTrue (cond b (carried_out args code (copy_of t)).written no_keys q)
+      either : (b : Bool) → Contains (map (λ e. e.0) (cond b before [])) q ↔ IsTrue (cond b (carried_out args code (copy_of t)).written no_keys q)
       either true = end.keys q
       either false = (λ h. absurd (no_element q h), λ h. absurd cc)
+
+  -- with what its writes replaced put back, the table is the one before
+  pub before_run : (x : Execution) (u v : Table) (before : List (Bytes × Cell)) (c : ℕ) (es : List (Bytes × Cell)) → IsCarriedOut code args t x u before c →
+      v ≡ cond (c == 0) u (with_cells u before) → es ≡ cond (c == 0) before [] → with_cells v es ≡ t
+  before_run x u v before c es end e f = (λ i. with_cells (e i) (f i)) ∙ either (c == 0)
+    where
+      either : (b : Bool) → with_cells (cond b u (with_cells u before)) (cond b before []) ≡ t
+      either true = end.undone
+      either false = end.undone

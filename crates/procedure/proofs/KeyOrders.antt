@@ -1,4 +1,4 @@
--- Keys stand in the order of their first places as numbers, where these differ.
+-- Keys compare as the numbers in their places do, some places at a time.
 use Rattle.std.proofs.Common.{◌≡◌, ◌<◌, ◌≤◌, ◌+◌, ◌*◌, ◌^◌, ◌⊎◌, inl, inr, ◌≢◌, ℕ, zero, suc, List, [], ◌∷◌, ◌++◌, length, take, drop, get_or, replicate, refl, sym, ap, ◌∙◌, arith, Ordering, Less, Equal, Greater}
 use Rattle.std.specs.Ordering.{MatchOrdering, nat_cmp, ordering_reverse}
 use Rattle.std.specs.Cmp.{ranked, nat_cmp_is}

@@ -40,4 +40,4 @@ pub use needs::{Access, Need, Update};
 pub use runs::{Alone, Finished, run_alone, run_whole};
 pub use sequences::Sequence;
 pub use tables::{Changes, KeyMap, Table};
-pub use values::Value;
+pub use values::{Value, are_same_replies};

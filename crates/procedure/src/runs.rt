@@ -3,12 +3,13 @@
 //! This is the plain program that tells what a call does: recovery runs on it, and the engine, which
 //! executes the instructions of many calls between one another, is measured by it.
 
-ghost use Rattle.std.specs.Prelude.{◌≡◌, ◌==◌, ◌↔◌, ◌++◌, if◌then◌else◌, [], Contains, IfOk, List, IsTrue, OnOk, map, option_copied};
+ghost use Rattle.std.specs.Prelude.{◌≡◌, ◌==◌, ◌↔◌, ◌++◌, if◌then◌else◌, [], Contains, IfOk, List, IsTrue, OnOk, map, option_copied, option_map};
 ghost use Rattle.procedure.specs.Bytes.{Bytes, Cell};
 ghost use Rattle.procedure.specs.Carried.{IsCarried, IsCarriedOut, advanced_on, change_on, changed, replaced};
 ghost use Rattle.procedure.specs.Copies.{held_in_copy, run};
 ghost use Rattle.procedure.specs.Fronts.{IsEnd, IsFront};
-ghost use Rattle.procedure.specs.Needs.{change_of, touch_of};
+ghost use Rattle.procedure.specs.Needs.{change_of, touch_of, updated};
+ghost use Rattle.procedure.specs.declared.needs.Need.TheVariants.{Write};
 ghost use Rattle.procedure.specs.Procedures.{Instruction};
 ghost use Rattle.procedure.specs.Runs.{advanced, advanced_alone, changes_alone, committed, ended, seen_at, whole};
 ghost use Rattle.procedure.specs.Table.{Table, change_at, changed_or, no_changes, value_at, with_cell, with_cells, with_change_of};
@@ -17,12 +18,12 @@ use crate::instructions::Procedure;
 use crate::keys::Key;
 use crate::machines::Machine;
 use crate::memory::NoMemory;
-use crate::needs::Need;
+use crate::needs::{Need, Update};
 use crate::outcomes::COMMITTED;
 use crate::sequences::Sequence;
 use crate::tables::{Changes, Table};
 use crate::values::Value;
-use std::alloc::{AllocError, Allocator};
+use std::alloc::Allocator;
 
 /// What a run leaves beside a table that it only reads.
 #[derive(Debug, Drop)]
@@ -39,8 +40,9 @@ pub struct Finished<A: Allocator> {
     pub outcome: u8,
     pub replies: Sequence<Option<Value<A>>, A>,
     pub table: Table<A>,
-    /// The written keys; none where the call doesn't commit.
-    pub written: Sequence<Key, A>,
+    /// The written keys in the order of the writes, each with what it held before; none where the call
+    /// doesn't commit.
+    pub written: Sequence<(Key, Option<Value<A>>), A>,
 }
 
 /// What a key holds for a call that has made these changes.
@@ -193,6 +195,53 @@ fn replace<A: Allocator>(
     }
 }
 
+/// Updates a key of the table. What it held goes back to the caller, or None where it stays.
+#[inline(always)]
+fn updated<A: Allocator>(
+    table: &mut Table<A>,
+    key: Key,
+    update: Update<Value<A>>,
+) -> Result<Option<Option<Value<A>>>, NoMemory>
+    ensures held { IfOk result (λ held. held ≡ option_map (λ _. value_at table.old key) (updated update (value_at table.old key))) }
+    ensures table { OnOk result (table.new ≡ changed table.old (change_of (Write key update) (value_at table.old key))) }
+{
+    match update {
+        Update::Put(value) => Ok(Some(table.insert(key, value)?)),
+        Update::Insert(_) if table.get(&key).is_some() => Ok(None),
+        Update::Insert(value) => Ok(Some(table.insert(key, value)?)),
+        Update::Delete => match table.remove(&key) {
+            Some(held) => Ok(Some(Some(held))),
+            None => Ok(None),
+        },
+    }
+}
+
+/// Executes an instruction that updates a key, and notes what the update replaces.
+#[inline(always)]
+fn update_on<A: Allocator + Clone>(
+    machine: &mut Machine<A>,
+    table: &mut Table<A>,
+    before: &mut Vec<(Key, Option<Value<A>>), A>,
+    key: Key,
+    update: Update<Value<A>>,
+) -> Result<(), NoMemory>
+    ensures machine { OnOk result (machine.new ≡ record machine.old {
+      progress = advanced machine.old.args machine.old.progress (value_at table.old key);
+    }) }
+    ensures table { OnOk result (table.new ≡ changed table.old (change_of (Write key update) (value_at table.old key))) }
+    ensures before { OnOk result (before.new.items ≡ before.old.items ++ replaced table.old (change_of (Write key update) (value_at table.old key))) }
+{
+    before.reserve(1)?;
+    match updated(table, key, update)? {
+        Some(held) => {
+            machine.fed(held.as_ref())?;
+            before.push_reserved((key, held));
+        }
+        None => machine.fed(table.get(&key))?,
+    }
+    Ok(())
+}
+
 /// What the key of a need holds.
 fn held<'a, A: Allocator>(need: &Need<Value<A>>, table: &'a Table<A>) -> Option<&'a Value<A>>
     ensures { option_copied result ≡ held_in_copy table.now (touch_of need.now) }
@@ -203,47 +252,24 @@ fn held<'a, A: Allocator>(need: &Need<Value<A>>, table: &'a Table<A>) -> Option<
     }
 }
 
-/// Executes the instruction of this need, and returns the change that it makes.
+/// Executes the instruction of this need on the table, and notes what it replaces.
 #[inline(always)]
 fn fed_on<A: Allocator + Clone>(
     machine: &mut Machine<A>,
-    table: &Table<A>,
-    need: Need<Value<A>>,
-) -> Result<Option<(Key, Option<Value<A>>)>, NoMemory>
-    ensures machine { OnOk result (machine.new ≡ record machine.old {
-      progress = advanced machine.old.args machine.old.progress (held_in_copy table.now (touch_of need));
-    }) }
-    ensures change { IfOk result (λ change. change ≡ change_of need (held_in_copy table.now (touch_of need))) }
-{
-    let found = held(&need, table);
-    let change = match need {
-        Need::Write(key, update) => match update.becomes(found) {
-            Some(cell) => Some((key, cell)),
-            None => None,
-        },
-        Need::Read(_) | Need::Own | Need::Ended(_) => None,
-    };
-    machine.fed(found)?;
-    Ok(change)
-}
-
-/// Makes a change, and notes what it replaces.
-#[inline(always)]
-fn make<A: Allocator>(
     table: &mut Table<A>,
     before: &mut Vec<(Key, Option<Value<A>>), A>,
-    change: Option<(Key, Option<Value<A>>)>,
+    need: Need<Value<A>>,
 ) -> Result<(), NoMemory>
-    ensures table { OnOk result (table.new ≡ changed table.old change) }
-    ensures before { OnOk result (before.new.items ≡ before.old.items ++ replaced table.old change) }
+    ensures machine { OnOk result (machine.new ≡ record machine.old {
+      progress = advanced machine.old.args machine.old.progress (held_in_copy table.old (touch_of need));
+    }) }
+    ensures table { OnOk result (table.new ≡ changed table.old (change_of need (held_in_copy table.old (touch_of need)))) }
+    ensures before { OnOk result (before.new.items ≡ before.old.items ++ replaced table.old (change_of need (held_in_copy table.old (touch_of need)))) }
 {
-    let Some((key, cell)) = change else {
-        return Ok(());
-    };
-    before.reserve(1)?;
-    let held = replace(table, key, cell)?;
-    before.push_reserved((key, held));
-    Ok(())
+    match need {
+        Need::Write(key, update) => update_on(machine, table, before, key, update),
+        Need::Read(_) | Need::Own | Need::Ended(_) => machine.fed(held(&need, table)),
+    }
 }
 
 /// Executes one instruction on the table, or returns the outcome of a call that has ended.
@@ -264,8 +290,7 @@ fn step_on<A: Allocator + Clone>(
     if let Need::Ended(outcome) = need {
         return Ok(Some(outcome));
     }
-    let change = fed_on(machine, table, need)?;
-    make(table, before, change)?;
+    fed_on(machine, table, before, need)?;
     Ok(None)
 }
 
@@ -300,42 +325,31 @@ fn put_back<A: Allocator>(
 /// Puts back what writes replaced, from the last to the first.
 fn undo<A: Allocator>(
     table: Table<A>,
-    before: Vec<(Key, Option<Value<A>>), A>,
+    before: &mut Vec<(Key, Option<Value<A>>), A>,
 ) -> Result<Table<A>, NoMemory>
-    ensures { IfOk result (λ t. t ≡ with_cells table before.items) }
+    ensures table { IfOk result (λ t. t ≡ with_cells table before.old.items) }
+    ensures before { OnOk result (before.new.items ≡ []) }
 {
     let mut table = table;
-    let mut before = before;
     while let Some(was) = before.pop() {
         put_back(&mut table, was)?;
     }
     Ok(table)
 }
 
-fn keys_of<A: Allocator>(
-    alloc: A,
-    pairs: &[(Key, Option<Value<A>>)],
-) -> Result<Vec<Key, A>, AllocError>
-    ensures { IfOk result (λ keys. keys.items ≡ map (λ p. p.0) pairs.now) }
-{
-    pairs.iter().map(|pair| pair.0).collect(alloc)
-}
-
-/// The table that a call leaves, and the keys that it wrote: none of a call that doesn't commit.
+/// The table that a call leaves.
 fn settled<A: Allocator>(
-    alloc: A,
     outcome: u8,
     table: Table<A>,
-    before: Vec<(Key, Option<Value<A>>), A>,
-) -> Result<(Table<A>, Vec<Key, A>), NoMemory>
-    ensures table { IfOk result (λ r. r.0 ≡ (if outcome == COMMITTED then table else with_cells table before.items)) }
-    ensures written { IfOk result (λ r. r.1.items ≡ (if outcome == COMMITTED then map (λ p. p.0) before.items else [])) }
+    before: &mut Vec<(Key, Option<Value<A>>), A>,
+) -> Result<Table<A>, NoMemory>
+    ensures table { IfOk result (λ t. t ≡ (if outcome == COMMITTED then table else with_cells table before.old.items)) }
+    ensures before { OnOk result (before.new.items ≡ (if outcome == COMMITTED then before.old.items else [])) }
 {
     if outcome == COMMITTED {
-        let written = keys_of(alloc, before.as_slice())?;
-        Ok((table, written))
+        Ok(table)
     } else {
-        Ok((undo(table, before)?, Vec::new(alloc)))
+        undo(table, before)
     }
 }
 
@@ -351,18 +365,19 @@ pub fn run_whole<A: Allocator + Clone>(
     ensures outcome { IfOk result (λ f. f.outcome ≡ (run procedure.now.code args table).outcome) }
     ensures replies { IfOk result (λ f. f.replies ≡ (run procedure.now.code args table).replies) }
     ensures table { IfOk result (λ f. f.table ≡ (run procedure.now.code args table).table) }
-    ensures written { IfOk result (λ f. (q : Bytes) → Contains f.written q ↔ IsTrue ((run procedure.now.code args table).written q)) }
+    ensures written { IfOk result (λ f. (q : Bytes) → Contains (map (λ e. e.0) f.written) q ↔ IsTrue ((run procedure.now.code args table).written q)) }
+    ensures before { IfOk result (λ f. with_cells f.table f.written ≡ table) }
 {
     let mut machine = Machine::start(alloc.clone()?, procedure, args)?;
     let mut table = table;
-    let mut before = Vec::new(alloc.clone()?);
+    let mut before = Vec::new(alloc);
     let outcome = carry_out(&mut machine, &mut table, &mut before)?;
     let (_, replies) = machine.into_parts();
-    let (table, written) = settled(alloc, outcome, table, before)?;
+    let table = settled(outcome, table, &mut before)?;
     Ok(Finished {
         outcome,
         replies,
         table,
-        written: Sequence::new(written),
+        written: Sequence::new(before),
     })
 }

@@ -16,16 +16,20 @@ use crate::sequences::Sequence;
 use crate::values::Value;
 use indexmap::IndexMap;
 use std::alloc::{AllocError, Allocator};
+use std::cmp;
 use std::hash::{BuildHasherDefault, FoldHasher};
 use std::marker::Model;
 
 type Entries<V, A> = IndexMap<Key, V, BuildHasherDefault<FoldHasher>, A>;
 
 /// A hash map, seen by contracts as a finite map in the byte order of its keys. A look-up takes as long
-/// in a large map as in a small one. The room of keys that were removed is kept for others.
+/// in a large map as in a small one. Once more than half of its keys are gone, their room is given back.
 #[derive(Debug, Drop)]
 pub struct KeyMap<V, A: Allocator> {
     entries: Entries<V, A>,
+    /// The most keys for which there was room or which there were, since room was last given back. The
+    /// capacity of a hash map doesn't tell this, since it falls with removals.
+    most: usize,
 }
 
 /// What each present key holds.
@@ -55,6 +59,7 @@ impl<V, A: Allocator + Copy> KeyMap<V, A> {
     {
         KeyMap {
             entries: IndexMap::new(alloc),
+            most: 0,
         }
     }
 }
@@ -89,7 +94,9 @@ impl<V: Drop, A: Allocator> KeyMap<V, A> {
         ensures err { OnErr result (self.new ≡ self.old) }
         ensures memory { IsSome (map.get self.old key) → IsOk result }
     {
-        Ok(self.entries.insert(key, value)?)
+        let before = self.entries.insert(key, value)?;
+        self.most = cmp::max(self.most, self.len());
+        Ok(before)
     }
 
     /// What the key held goes back to the caller. It takes no memory.
@@ -97,7 +104,20 @@ impl<V: Drop, A: Allocator> KeyMap<V, A> {
         ensures value { result ≡ map.get self.old key.now }
         ensures removed { self.new ≡ map.remove self.old key.now }
     {
-        self.entries.swap_remove(key)
+        let removed = self.entries.swap_remove(key);
+        self.trim();
+        removed
+    }
+
+    /// Gives back room where more than half of the keys are gone.
+    #[inline(always)]
+    fn trim(&mut self)
+        ensures { self.new ≡ self.old }
+    {
+        if self.len() < self.most / 2 {
+            self.entries.shrink_to_fit();
+            self.most = self.len();
+        }
     }
 
     /// The pairs, in the byte order of their keys.
@@ -134,6 +154,7 @@ fn with_room<V, A: Allocator + Copy>(alloc: A, room: usize) -> Result<KeyMap<V, 
 {
     Ok(KeyMap {
         entries: IndexMap::with_capacity(alloc, room)?,
+        most: room,
     })
 }
 
@@ -147,6 +168,8 @@ fn inserted<V: Drop, A: Allocator + Copy>(
     for (key, value) in pairs {
         made.insert(key, value)?;
     }
+    // Of pairs with the same key all but one are gone.
+    made.trim();
     Ok(made)
 }
 

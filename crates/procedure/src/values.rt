@@ -1,6 +1,6 @@
 //! Values, held inline where they are short.
 
-ghost use Rattle.std.specs.Prelude.{◌≡◌, ◌≤◌, ◌↔◌, [], length, IfOk, IfSome, IsOk, IsSome, Some};
+ghost use Rattle.std.specs.Prelude.{◌≡◌, ◌≤◌, ◌↔◌, [], length, IfOk, IfSome, IsOk, IsSome, IsTrue, Some};
 ghost use Rattle.byteorder.specs.Endian.{big_bytes};
 ghost use Rattle.procedure.specs.Procedures.{as_number};
 
@@ -123,6 +123,31 @@ impl<A: Allocator> Value<A> {
             Held::Heap(bytes) => bytes.as_slice(),
         }
     }
+}
+
+fn is_same_reply<A: Allocator>(x: &Option<Value<A>>, y: &Option<Value<A>>) -> bool
+    ensures { IsTrue result ↔ (x.now ≡ y.now) }
+{
+    match (x, y) {
+        (Some(x), Some(y)) => x.as_bytes() == y.as_bytes(),
+        (None, None) => true,
+        _ => false,
+    }
+}
+
+/// Whether two lists of replies are the same.
+pub fn are_same_replies<A: Allocator>(x: &[Option<Value<A>>], y: &[Option<Value<A>>]) -> bool
+    ensures { IsTrue result ↔ (x.now ≡ y.now) }
+{
+    if x.len() != y.len() {
+        return false;
+    }
+    for (i, reply) in x.iter().enumerate() {
+        if !is_same_reply(reply, &y[i]) {
+            return false;
+        }
+    }
+    true
 }
 
 impl<A: Allocator + Clone> Clone for Value<A> {

@@ -1,5 +1,5 @@
 -- The winner at node 1 is the least of all.
-use Rattle.std.proofs.Common.{◌≡◌, ◌≢◌, ℕ, zero, suc, ◌+◌, ◌-◌, ◌/◌, ◌<◌, ◌≤◌, Bool, true, false, cond, ◌⊎◌, inl, inr, List, length, get_or, Option, Some, None, refl, sym, ap, ◌∙◌, subst, arith, slice_set, length-set, get_or-set_same, get_or-set_other, option_map, drop, ◌++◌, replicate, length-append, length-drop}
+use Rattle.std.proofs.Common.{◌≡◌, ◌≢◌, ℕ, zero, suc, ◌+◌, ◌-◌, ◌/◌, ◌<◌, ◌≤◌, Bool, true, false, cond, ◌⊎◌, inl, inr, List, [], ◌∷◌, length, get_or, Option, Some, None, refl, sym, ap, ◌∙◌, subst, arith, slice_set, length-set, get_or-set_same, get_or-set_other, option_map, drop, ◌++◌, replicate, length-append, length-drop}
 use Rattle.std.proofs.Math.ListN.{get_or-map}
 use Rattle.std.proofs.Math.Seq.{get_or-append_right}
 use Rattle.std.proofs.lemmas.List.{get_or-drop, get_or_past, get_or-replicate, get_or_append_left, length-replicate, length-map, same_lists, get_or_default}
@@ -307,3 +307,33 @@ module _ {A : Type 0} where
 
   pub enlarged_offers : (d new : Inside A) → IsEnlarged d.nodes.items new.nodes.items d.slots new.slots → (slot : ℕ) → offer_at (offers_of new) slot ≡ offer_at (offers_of d) slot
   enlarged_offers d new more slot = offer_at_node new slot ∙ ap key_in (more.same slot) ∙ sym (offer_at_node d slot)
+
+-- where no slot had a place, no key is offered: nothing wins anywhere
+module _ (old new : Nodes) (slots wanted : ℕ) (none : slots ≤ 0) (len : length old ≡ slots + slots) (blank : new ≡ old ++ replicate (wanted + wanted - length old) None) where
+  first : old ≡ []
+  first = is_nil old (omega (arith, len, none))
+    where
+      is_nil : (l : Nodes) → length l ≡ 0 → l ≡ []
+      is_nil [] e = refl
+      is_nil (x ∷ l) e = let none : ⊥ = omega (arith, e) in absurd none
+
+  all_blank : new ≡ replicate (wanted + wanted) None
+  all_blank = blank ∙ ap (λ (l : Nodes). l ++ replicate (wanted + wanted - length l) None) first ∙ ap (λ n. replicate n None) (omega arith)
+
+  nothing : (n : ℕ) → node_at new n ≡ None
+  nothing n = ap (λ (l : Nodes). node_at l n) all_blank ∙ of_none (wanted + wanted) n
+    where
+      of_none : (count n : ℕ) → node_at (replicate count None) n ≡ None
+      of_none zero n = refl
+      of_none (suc count) zero = refl
+      of_none (suc count) (suc n) = of_none count n
+
+  pub first_places : IsEnlarged old new slots wanted
+  first_places = record {
+    len = ap length all_blank ∙ length-replicate (wanted + wanted) None;
+    same = λ slot. nothing (wanted + slot) ∙ sym (ap (λ (l : Nodes). node_at l (slots + slot)) first);
+  }
+
+  pub nothing_wins : IsWonFrom new wanted 1
+  unfolding match_at winner
+  nothing_wins = record { won = λ n from within. nothing n ∙ sym (λ i. winner (nothing (n + n) i) (nothing (n + n + 1) i)) }

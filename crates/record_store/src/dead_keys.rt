@@ -188,7 +188,10 @@ fn enlarge<A: Allocator>(
     ensures err { OnErr result (nodes.new.items ≡ nodes.old.items) }
 {
     lengthen(nodes, wanted + wanted)?;
-    refill(nodes, slots, wanted);
+    // Where there was no place no key is offered yet, and nothing wins.
+    if slots > 0 {
+        refill(nodes, slots, wanted);
+    }
     Ok(())
 }
 

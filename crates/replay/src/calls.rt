@@ -11,7 +11,9 @@ ghost use Rattle.replay.specs.declared.calls.CallError.TheVariants as refused;
 
 use commitlog::records::Entry;
 use image::limits::ENTRIES;
-use procedure::{Call, Catalog, Finished, NoMemory, Sequence, Table, Value, run_whole};
+use procedure::{
+    Call, Catalog, Finished, NoMemory, Sequence, Table, Value, are_same_replies, run_whole,
+};
 use std::alloc::Allocator;
 
 /// Why a call isn't run again.
@@ -31,30 +33,6 @@ impl From<NoMemory> for CallError {
     fn from(_refused: NoMemory) -> Self {
         CallError::NoMemory
     }
-}
-
-fn is_same_reply<A: Allocator>(x: &Option<Value<A>>, y: &Option<Value<A>>) -> bool
-    ensures { IsTrue result ↔ (x.now ≡ y.now) }
-{
-    match (x, y) {
-        (Some(x), Some(y)) => x.as_bytes() == y.as_bytes(),
-        (None, None) => true,
-        _ => false,
-    }
-}
-
-fn are_same_replies<A: Allocator>(x: &[Option<Value<A>>], y: &[Option<Value<A>>]) -> bool
-    ensures { IsTrue result ↔ (x.now ≡ y.now) }
-{
-    if x.len() != y.len() {
-        return false;
-    }
-    for (i, reply) in x.iter().enumerate() {
-        if !is_same_reply(reply, &y[i]) {
-            return false;
-        }
-    }
-    true
 }
 
 /// What a run leaves of its table, where it gave this outcome and these replies. It takes no memory.

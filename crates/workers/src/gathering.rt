@@ -8,7 +8,7 @@ ghost use Rattle.workers.specs.declared.errors.GatherError.TheVariants as refuse
 use crate::errors::GatherError;
 use crate::shares::{Given, Response, Share};
 use commitlog::{Entry, Record};
-use procedure::{NoMemory, Value};
+use procedure::{NoMemory, are_same_replies};
 use std::alloc::Allocator;
 use steps::Answer;
 
@@ -18,30 +18,6 @@ pub(crate) struct Claim<A: Allocator> {
     session: u16,
     number: u64,
     answer: Answer<A>,
-}
-
-fn is_same_reply<A: Allocator>(x: &Option<Value<A>>, y: &Option<Value<A>>) -> bool
-    ensures { IsTrue result ↔ (x.now ≡ y.now) }
-{
-    match (x, y) {
-        (Some(x), Some(y)) => x.as_bytes() == y.as_bytes(),
-        (None, None) => true,
-        _ => false,
-    }
-}
-
-fn are_same_replies<A: Allocator>(x: &[Option<Value<A>>], y: &[Option<Value<A>>]) -> bool
-    ensures { IsTrue result ↔ (x.now ≡ y.now) }
-{
-    if x.len() != y.len() {
-        return false;
-    }
-    for (i, reply) in x.iter().enumerate() {
-        if !is_same_reply(reply, &y[i]) {
-            return false;
-        }
-    }
-    true
 }
 
 /// Whether a record is the call that the claim names.

@@ -22,11 +22,11 @@ returns g c =
     let u = c.args.table.now in
     let n = c.in_ok-need.need in
     let asks = c.in_ok-need.ensures.value in
-    let change = c.in_ok-change.ensures.change ∙ change_is x.args u x.progress n asks in
+    let change = change_is x.args u x.progress n asks in
     record {
       outcome = sym (need_going x.args x.progress (λ o e. c.in_default.not-Ended o (asks ∙ e)));
-      args = ap (λ (y : Execution). y.args) c.in_ok-change.ensures.machine;
-      progress = ap (λ (y : Execution). y.progress) c.in_ok-change.ensures.machine ∙ goes_on x.args u x.progress n asks;
-      table = c.in_ok-make.ensures.table ∙ ap (changed u) change;
-      before = c.in_ok-make.ensures.before ∙ ap (λ (d : Option (Bytes × Cell)). c.args.before.now.items ++ replaced u d) change;
+      args = ap (λ (y : Execution). y.args) c.in_ok-fed_on.ensures.machine;
+      progress = ap (λ (y : Execution). y.progress) c.in_ok-fed_on.ensures.machine ∙ goes_on x.args u x.progress n asks;
+      table = c.in_ok-fed_on.ensures.table ∙ ap (changed u) change;
+      before = c.in_ok-fed_on.ensures.before ∙ ap (λ (d : Option (Bytes × Cell)). c.args.before.now.items ++ replaced u d) change;
     }

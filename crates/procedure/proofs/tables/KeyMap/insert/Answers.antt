@@ -5,15 +5,15 @@ use Rattle.procedure.specs.Table.{KeyMap}
 use Rattle.procedure.proofs.Maps.{get-view, map_of-insert}
 use Rattle.procedure.proofs.tables.KeyMap.insert.Goals as goal
 
-pub returns-in_err-insert-clause-memory : goal.returns-in_err-insert-clause-memory
-returns-in_err-insert-clause-memory g c =
-    let absent = get-view c.self.inside.entries.entries c.args.self.now c.self.view_is c.args.key ∙ c.in_err-insert.ensures.absent in
+pub returns-in_err-before-clause-memory : goal.returns-in_err-before-clause-memory
+returns-in_err-before-clause-memory g c =
+    let absent = get-view c.self.inside.entries.entries c.args.self.now c.self.view_is c.args.key ∙ c.in_err-before.ensures.absent in
     λ present. absurd (false≢true (subst (λ o. IsSome o) absent present))
 
 pub returns-clause-before : goal.returns-clause-before
-returns-clause-before g c = c.in_ok-insert.ensures.old ∙ sym (get-view c.self.inside.entries.entries c.args.self.now c.self.view_is c.args.key)
+returns-clause-before g c = c.in_ok-before.ensures.old ∙ sym (get-view c.self.inside.entries.entries c.args.self.now c.self.view_is c.args.key)
 
 pub returns-clause-ok : goal.returns-clause-ok
 returns-clause-ok g c =
-    map_of-insert c.self.inside.entries.entries c.insert.new.self.entries c.args.key c.args.value c.in_ok-insert.ensures.updates.0
+    map_of-insert c.self.inside.entries.entries c.insert.new.self.entries c.args.key c.args.value c.in_ok-before.ensures.updates.0
     ∙ ap (λ (m : KeyMap g.row.V.Denot). insert m c.args.key c.args.value) c.self.view_is

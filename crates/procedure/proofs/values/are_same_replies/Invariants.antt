@@ -1,5 +1,5 @@
 use Rattle.std.proofs.Common.{◌≡◌, take}
-use Rattle.replay.proofs.calls.are_same_replies.Given as goal
+use Rattle.procedure.proofs.values.are_same_replies.Given as goal
 
 -- the replies so far are the same
 abbrev pub invariant-loop-i : goal.invariant-loop-i
