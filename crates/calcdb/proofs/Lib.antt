@@ -35,3 +35,4 @@ pub mod ThreadEnds
 pub mod ThreadJournals
 pub mod ListedPairs
 pub mod WordValues
+pub mod Queues

@@ -22,11 +22,11 @@ unfolding preamble_of
 long_preamble a h = rw (lt-leb (length a) SCRIPT_BYTES h) refl
 
 -- the script with a preamble, where there is one
-abbrev script_with : {C : Type 0} → (Names → List Bytes → Option C) → Result Preamble ScriptFault → Result (Script C) ScriptFault
-script_with reads says = elim says [ Ok p ↦ script_after reads p | Err e ↦ Err e ]
+abbrev script_with : {L : Type 0} → (Names → L → List Bytes → Option L) → L → Result Preamble ScriptFault → Result (Script L) ScriptFault
+script_with added none says = elim says [ Ok p ↦ script_after added none p | Err e ↦ Err e ]
 
-pub long_scripts : {C : Type 0} (reads : Names → List Bytes → Option C) → RefusesLong (script_of reads)
-long_scripts reads a b ha hb = ap (script_with reads) (long_preamble a ha ∙ sym (long_preamble b hb))
+pub long_scripts : {L : Type 0} (added : Names → L → List Bytes → Option L) (none : L) → RefusesLong (script_of added none)
+long_scripts added none a b ha hb = ap (script_with added none) (long_preamble a ha ∙ sym (long_preamble b hb))
 
 pub long_pairs : RefusesLong image_of_pairs
 unfolding table_of_pairs

@@ -1,5 +1,5 @@
 -- Lines of commands.
-use Rattle.std.specs.Prelude.{ℕ, ◌-◌, ◌^◌, Bool, true, false, ◌&&◌, ◌||◌, if◌then◌else◌, nat_le, codes, List, [], ◌∷◌, length, slice_index_or, Option, Some, None}
+use Rattle.std.specs.Prelude.{ℕ, ◌-◌, ◌^◌, Bool, true, false, ◌&&◌, ◌||◌, if◌then◌else◌, nat_le, codes, List, [], ◌∷◌, ◌++◌, length, slice_index_or, Option, Some, None}
 use Rattle.std.specs.FinMap as map
 use Rattle.image.specs.declared.images.Kind.{Kind}
 use Rattle.image.specs.declared.images.Kind.TheVariants.{Full, Partial}
@@ -151,3 +151,7 @@ command_of names ws = do
     | named.Reclaim ↦ without_arguments command.Reclaim c.1
     | named.Abandon ↦ without_arguments command.Abandon c.1
   ]
+
+-- commands with one more behind them, which a line's words are as they are read so
+abbrev pub with_more : {C : Type 0} → (Names → List Bytes → Option C) → Names → List C → List Bytes → Option (List C)
+with_more reads names cs ws = reads names ws >>= λ c. Some (cs ++ c ∷ [])

@@ -1,2 +1,3 @@
 -- What the proofs of the program speak of, and no contract of a command.
 pub mod ListedPairs
+pub mod Queues

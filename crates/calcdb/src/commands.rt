@@ -1,6 +1,6 @@
 //! Lines of commands.
 
-ghost use Rattle.std.specs.Prelude.{◌≡◌, ◌∷◌, List, map};
+ghost use Rattle.std.specs.Prelude.{◌≡◌, ◌∷◌, List, map, option_copied};
 ghost use Rattle.calcdb.specs.Reads.{ReadsAs, ReadsExactly};
 ghost use Rattle.calcdb.specs.Commands as spec;
 ghost use Rattle.calcdb.specs.Lines.{all_pass, words};
@@ -9,11 +9,12 @@ ghost use Rattle.calcdb.specs.Values.{held_value_of, value_of};
 use crate::faults::misreads::{Misread, Quote};
 use crate::faults::unread::Unread;
 use crate::instructions::is_word;
-use crate::lines::{count_words, end_of, first_word, word_at};
+use crate::lines::{end_of, first_word, word_at};
 use crate::values::{decimal_of, held_of, value_of};
 use image::Kind;
 use procedure::{Key, KeyMap, Sequence, Value};
 use std::alloc::Allocator;
+use std::marker::Model;
 use steps::Arguments;
 
 /// The call that a command begins.
@@ -72,8 +73,45 @@ pub(crate) enum CommandName {
     Abandon,
 }
 
-/// The number of each procedure that is defined, by its name.
-pub(crate) type Names<A> = KeyMap<u16, A>;
+/// A procedure that is defined, seen by contracts as its number.
+#[derive(Drop)]
+pub(crate) struct Defined {
+    number: u16,
+    /// How many arguments it takes.
+    arity: u8,
+}
+
+impl Model for Defined {
+    ghost use Rattle.std.specs.Prelude.{ℕ};
+    ghost use Rattle.std.specs.Coded.{coded_ℕ};
+
+    ghost Value = { ℕ };
+
+    ghost coded = { coded_ℕ };
+
+    ghost view = { λ p. p.number };
+}
+
+impl Defined {
+    pub(crate) fn new(number: u16, arity: u8) -> Self
+        ensures { result ≡ number }
+    {
+        Defined { number, arity }
+    }
+
+    pub(crate) fn number(&self) -> u16
+        ensures { result ≡ self.now }
+    {
+        self.number
+    }
+
+    pub(crate) fn arity(&self) -> u8 {
+        self.arity
+    }
+}
+
+/// Each procedure that is defined, by its name.
+pub(crate) type Names<A> = KeyMap<Defined, A>;
 
 fn is_letter_or_digit(word: &[u8]) -> bool
     ensures { result ≡ all_pass spec.is_letter_or_digit word.now }
@@ -98,34 +136,43 @@ pub(crate) fn is_name(word: &[u8]) -> bool
     }
 }
 
-/// The number of the procedure with this name.
+/// The procedure with this name.
 #[inline(always)]
-pub(crate) fn number_of_name<A: Allocator>(names: &Names<A>, word: &[u8]) -> Option<u16>
-    ensures { result ≡ spec.procedure_of names.now word.now }
+pub(crate) fn procedure_of<'a, A: Allocator>(
+    names: &'a Names<A>,
+    word: &[u8],
+) -> Option<&'a Defined>
+    ensures { option_copied result ≡ spec.procedure_of names.now word.now }
 {
     if !is_name(word) {
         return None;
     }
     match Key::new(word) {
-        Some(key) => names.get(&key).copied(),
+        Some(key) => names.get(&key),
         None => None,
     }
 }
 
-/// A kind of commands, as the words of a line are read.
-pub(crate) trait ReadCommand<A: Allocator>: Sized {
-    ghost use Rattle.std.specs.Prelude.{◌∷◌, List, Option};
+/// Commands that lines add to, one after another.
+pub(crate) trait CommandLines<A: Allocator>: Sized {
+    ghost use Rattle.std.specs.Prelude.{◌≡◌, ◌∷◌, List, Option};
     ghost use Rattle.procedure.specs.Bytes.{Bytes};
     ghost use Rattle.calcdb.specs.Commands.{Names};
     ghost use Rattle.calcdb.specs.Lines.{words};
     ghost use Rattle.calcdb.specs.Reads.{ReadsAs};
 
-    /// The command that words are, where the procedures have these names.
-    ghost reads: { Names → List Bytes → Option Self };
+    /// No commands.
+    ghost none: { Self };
 
-    /// The command that a line is, by its first word and what stands after that.
-    fn read(alloc: A, names: &Names<A>, word: &[u8], rest: &[u8]) -> Result<Self, Unread>
-        ensures { ReadsAs (λ c. c) result (reads names.now (word.now ∷ words rest.now)) };
+    /// The commands with the one behind them that words are, where the procedures have these names.
+    ghost added: { Names → Self → List Bytes → Option Self };
+
+    fn new(alloc: A) -> Self
+        ensures { result ≡ none };
+
+    /// Adds the command that a line is, by its first word and what stands after that.
+    fn read(&mut self, names: &Names<A>, word: &[u8], rest: &[u8]) -> Result<(), Unread>
+        ensures { ReadsAs (λ _. self.new) result (added names.now self.old (word.now ∷ words rest.now)) };
 }
 
 /// A session's number, at most this.
@@ -146,32 +193,35 @@ pub(crate) fn number_at(line: &[u8]) -> Result<(u64, &[u8]), Misread>
 
 #[inline(always)]
 pub(crate) fn procedure_at<'a, A: Allocator>(
-    names: &Names<A>,
+    names: &'a Names<A>,
     line: &'a [u8],
-) -> Result<(u16, &'a [u8]), Misread>
-    ensures { ReadsExactly (λ p. (p.0, words p.1.now)) result (spec.procedure_at names.now (words line.now)) }
+) -> Result<(&'a Defined, &'a [u8]), Misread>
+    ensures { ReadsExactly (λ p. (p.0.now, words p.1.now)) result (spec.procedure_at names.now (words line.now)) }
 {
     let (word, rest) = word_at(line)?;
-    match number_of_name(names, word) {
+    match procedure_of(names, word) {
         Some(procedure) => Ok((procedure, rest)),
         None => Err(Misread::NoProcedure(Quote::of(word))),
     }
 }
 
-/// The values that the words of a line are, where none is too long for one.
+/// The values that the words of a line are, where none is too long for one. Room is made for `likely` of
+/// them, so that words need not be counted first; what is too much is given back.
 #[inline(always)]
 pub(crate) fn values_of<A: Allocator + Clone>(
     alloc: A,
+    likely: u8,
     line: &[u8],
 ) -> Result<Sequence<Value<A>, A>, Unread>
     ensures { ReadsAs (λ v. v) result (spec.values_by held_value_of (words line.now)) }
 {
-    let mut values = Vec::with_capacity(alloc.clone()?, count_words(line))?;
+    let mut values = Vec::with_capacity(alloc.clone()?, usize::from(likely))?;
     let mut rest = line;
     while let Some((word, behind)) = first_word(rest) {
         values.push(held_of(alloc.clone()?, word)?)?;
         rest = behind;
     }
+    values.shrink_to_fit();
     Ok(Sequence::new(values))
 }
 
@@ -179,22 +229,27 @@ pub(crate) fn values_of<A: Allocator + Clone>(
 fn bytes_of<A: Allocator + Clone>(alloc: A, line: &[u8]) -> Result<Vec<Vec<u8, A>, A>, Unread>
     ensures { ReadsAs (λ v. map (λ b. b.items) v.items) result (spec.values_by value_of (words line.now)) }
 {
-    let mut values = Vec::with_capacity(alloc.clone()?, count_words(line))?;
+    let mut values = Vec::new(alloc.clone()?);
     let mut rest = line;
     while let Some((word, behind)) = first_word(rest) {
         values.push(value_of(alloc.clone()?, word)?)?;
         rest = behind;
     }
+    values.shrink_to_fit();
     Ok(values)
 }
 
 /// The arguments that the words of a line are. Where one is too long for a value, or is none, the line is
 /// read again for that.
 #[inline(always)]
-fn arguments_of<A: Allocator + Clone>(alloc: A, line: &[u8]) -> Result<Arguments<A>, Unread>
+fn arguments_of<A: Allocator + Clone>(
+    alloc: A,
+    likely: u8,
+    line: &[u8],
+) -> Result<Arguments<A>, Unread>
     ensures { ReadsAs (λ a. a) result (spec.values_by value_of (words line.now)) }
 {
-    match values_of(alloc.clone()?, line) {
+    match values_of(alloc.clone()?, likely, line) {
         Ok(values) => Ok(Arguments::of_values(values)),
         Err(Unread::NoMemory) => Err(Unread::NoMemory),
         Err(Unread::Faulty(_)) => Ok(Arguments::of_bytes(bytes_of(alloc, line)?)),
@@ -214,11 +269,11 @@ fn call_of<A: Allocator + Clone>(
     let (session, rest) = session_at(u16::MAX, line)?;
     let (number, rest) = number_at(rest)?;
     let (procedure, rest) = procedure_at(names, rest)?;
-    let args = arguments_of(alloc, rest)?;
+    let args = arguments_of(alloc, procedure.arity(), rest)?;
     Ok(NewCall {
         session,
         number,
-        procedure,
+        procedure: procedure.number(),
         args,
     })
 }
@@ -316,7 +371,7 @@ fn command_name(word: &[u8]) -> Result<CommandName, Misread>
 
 /// The command that a line is, by its first word and what stands after that.
 #[tactic(auto, unfolding(crate::specs::Commands::command_of))]
-fn command_of<A: Allocator + Clone>(
+pub(crate) fn command_of<A: Allocator + Clone>(
     alloc: A,
     names: &Names<A>,
     word: &[u8],
@@ -339,13 +394,5 @@ fn command_of<A: Allocator + Clone>(
         CommandName::TakeImage => Ok(Command::TakeImage),
         CommandName::Reclaim => Ok(Command::Reclaim),
         CommandName::Abandon => Ok(Command::Abandon),
-    }
-}
-
-impl<A: Allocator + Clone> ReadCommand<A> for Command<Arguments<A>> {
-    ghost reads = { spec.command_of };
-
-    fn read(alloc: A, names: &Names<A>, word: &[u8], rest: &[u8]) -> Result<Self, Unread> {
-        command_of(alloc, names, word, rest)
     }
 }

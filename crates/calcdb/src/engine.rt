@@ -12,7 +12,7 @@ ghost use Rattle.calcdb.specs.Scripts.{schedule_of};
 ghost use Rattle.calcdb.specs.Runs.{Carried, CarriesAll, Images};
 ghost use Rattle.calcdb.specs.declared.faults.Fault.TheVariants as fault;
 
-use crate::commands::Command;
+use crate::command_queue::CommandQueue;
 use crate::faults::refusals::write_fault;
 use crate::faults::{Fault, Reason};
 use crate::journals::{Journal, NoJournal, Stop};
@@ -23,7 +23,7 @@ use image::Image;
 use procedure::streams::{Unread, read_past};
 use std::alloc::Allocator;
 use std::io::{Read, Write};
-use steps::{Arguments, Core};
+use steps::Core;
 
 /// What a run leaves: the core, and what the images that were taken were given to.
 #[derive(Drop)]
@@ -58,13 +58,13 @@ fn run_on<P: Sink<Image<A>> + Drop, J: Journal<R, A>, R, W: Write, A: Allocator 
     writer: &mut W,
     sink: P,
     mut core: Core<A>,
-    commands: Vec<Command<Arguments<A>>, A>,
+    commands: CommandQueue<A>,
 ) -> Result<Ran<P, A>, Stop<J::Failure>>
     requires { P.Has sink [] }
-    ensures ok { IfOk result (λ r. (text : Bytes) × (images : Images) × P.Has r.images images × Carried {A = A} (CarriesAll core.catalog commands.items) core r.core text images
+    ensures ok { IfOk result (λ r. (text : Bytes) × (images : Images) × P.Has r.images images × Carried {A = A} (CarriesAll core.catalog commands) core r.core text images
         × Appends (W.contents writer.old) (W.contents writer.new) text
         × ((start : J) → J.Has start journal.old (taken_of core []) → J.Has start journal.new (taken_of r.core images))) }
-    ensures err { (start : J) → J.Has start journal.old (taken_of core []) → IfErr result (λ s. (new : CoreView) × StopsIn A core.catalog commands.items core new (W.contents writer.old) (W.contents writer.new) (J.Has start journal.new) (J.HasFront start journal.new) s) }
+    ensures err { (start : J) → J.Has start journal.old (taken_of core []) → IfErr result (λ s. (new : CoreView) × StopsIn A core.catalog commands core new (W.contents writer.old) (W.contents writer.new) (J.Has start journal.new) (J.HasFront start journal.new) s) }
 {
     match run_commands(alloc, rt, journal, &mut core, writer, sink, commands) {
         Ok(images) => Ok(Ran { core, images }),
@@ -84,13 +84,13 @@ fn run_begun<P: Sink<Image<A>> + Drop, J: Journal<R, A>, R, W: Write, A: Allocat
     writer: &mut W,
     sink: P,
     core: Core<A>,
-    commands: Vec<Command<Arguments<A>>, A>,
+    commands: CommandQueue<A>,
 ) -> Result<Ran<P, A>, Stop<J::Failure>>
     requires log { core.log ≡ [] }
     requires sink { P.Has sink [] }
-    ensures ok { IfOk result (λ r. (text : Bytes) × (images : Images) × P.Has r.images images × Carried {A = A} (CarriesAll core.catalog commands.items) core r.core text images
+    ensures ok { IfOk result (λ r. (text : Bytes) × (images : Images) × P.Has r.images images × Carried {A = A} (CarriesAll core.catalog commands) core r.core text images
         × Appends (W.contents writer.old) (W.contents writer.new) text × J.Has journal.old journal.new (taken_of r.core images)) }
-    ensures err { IfErr result (λ s. StopsFrom A core.catalog commands.items core (W.contents writer.old) (W.contents writer.new) (J.Has journal.old journal.new) (J.HasFront journal.old journal.new) s) }
+    ensures err { IfErr result (λ s. StopsFrom A core.catalog commands core (W.contents writer.old) (W.contents writer.new) (J.Has journal.old journal.new) (J.HasFront journal.old journal.new) s) }
 {
     match journal.open(alloc, rt, &core) {
         Ok(()) => run_on(alloc, rt, journal, writer, sink, core, commands),
@@ -122,7 +122,7 @@ fn run_opened<P: Sink<Image<A>> + Drop, J: Journal<R, A>, R, W: Write, A: Alloca
 {
     let Script { catalog, commands } = script;
     match Core::open(alloc, catalog, opening) {
-        Ok(core) => run_begun(alloc, rt, journal, writer, sink, core, commands.into_vec()),
+        Ok(core) => run_begun(alloc, rt, journal, writer, sink, core, commands),
         // The opening is one, so memory was wanting.
         Err(_) => Err(Stop::Fault(Fault::NoMemory)),
     }

@@ -135,16 +135,3 @@ pub(crate) fn is_skipped(line: &[u8]) -> bool
         None => true,
     }
 }
-
-/// How many words a line has.
-pub(crate) fn count_words(line: &[u8]) -> usize
-    ensures { result ≡ length (words line.now) }
-{
-    let mut count = 0;
-    let mut rest = line;
-    while let Some((_, behind)) = first_word(rest) {
-        count += 1;
-        rest = behind;
-    }
-    count
-}

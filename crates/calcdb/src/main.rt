@@ -11,6 +11,7 @@
 #![tactic(auto)]
 
 mod command_line;
+mod command_queue;
 mod commands;
 mod core_audits;
 mod digesting;

@@ -12,7 +12,7 @@ ghost use Rattle.calcdb.specs.Reads.{ReadsAs, ReadsExactly};
 ghost use Rattle.calcdb.specs.declared.scripts.ScriptFault.TheVariants as fault;
 ghost use Rattle.calcdb.specs.declared.scripts.TheConstants.{SCRIPT_BYTES};
 
-use crate::commands::{Names, is_name, number_of_name};
+use crate::commands::{Defined, Names, is_name, procedure_of};
 use crate::faults::misreads::{FaultyLine, Misread, Quote};
 use crate::faults::unread::Unread;
 use crate::instructions::{instruction_of, is_word};
@@ -149,7 +149,7 @@ fn new_name<'a, A: Allocator>(
     if !is_name(word) {
         return Err(Misread::NoName(Quote::of(word)));
     }
-    match number_of_name(names, word) {
+    match procedure_of(names, word) {
         Some(_) => Err(Misread::SameName(Quote::of(word))),
         None => Ok((word, rest)),
     }
@@ -209,7 +209,8 @@ impl<A: Allocator + Clone> Said<A> {
             return Err(Unread::Faulty(Misread::ManyProcedures));
         }
         let alloc = self.allocator().clone()?;
-        self.names.insert(name, self.procedures.len() as u16)?;
+        let defined = Defined::new(self.procedures.len() as u16, arity);
+        self.names.insert(name, defined)?;
         self.block = Some(Block::new(alloc, number, arity));
         Ok(())
     }

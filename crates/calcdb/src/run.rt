@@ -8,6 +8,7 @@ ghost use Rattle.steps.specs.declared.schedules.Event.TheVariants as event;
 ghost use Rattle.calcdb.specs.Journals.{IsKept, SentUnlessUnkept, StopsIn, Taken, images_given, taken_of, with_more};
 ghost use Rattle.calcdb.specs.Runs.{Calls, Carried, Carries, CarriesAll, Ends, GoesOn, Images, Says, Scans, Sent, count_of, images_shown, reply_text, shown_text};
 
+use crate::command_queue::CommandQueue;
 use crate::commands::{Command, NewCall};
 use crate::faults::Fault;
 use crate::journals::{Journal, Stop};
@@ -364,17 +365,18 @@ pub(crate) fn run_commands<
     core: &mut Core<A>,
     writer: &mut W,
     sink: P,
-    commands: Vec<Command<Arguments<A>>, A>,
+    commands: CommandQueue<A>,
 ) -> Result<P, Stop<J::Failure>>
     requires { P.Has sink [] }
-    ensures ok { IfOk result (λ kept. (text : Bytes) × (images : Images) × P.Has kept images × Carried {A = A} (CarriesAll core.old.catalog commands.items) core.old core.new text images
+    ensures ok { IfOk result (λ kept. (text : Bytes) × (images : Images) × P.Has kept images × Carried {A = A} (CarriesAll core.old.catalog commands) core.old core.new text images
         × Appends (W.contents writer.old) (W.contents writer.new) text
         × ((start : J) → J.Has start journal.old (taken_of core.old []) → J.Has start journal.new (taken_of core.new images))) }
-    ensures err { (start : J) → J.Has start journal.old (taken_of core.old []) → IfErr result (StopsIn A core.old.catalog commands.items core.old core.new (W.contents writer.old) (W.contents writer.new) (J.Has start journal.new) (J.HasFront start journal.new)) }
+    ensures err { (start : J) → J.Has start journal.old (taken_of core.old []) → IfErr result (StopsIn A core.old.catalog commands core.old core.new (W.contents writer.old) (W.contents writer.new) (J.Has start journal.new) (J.HasFront start journal.new)) }
 {
     let mut line = Vec::new(alloc);
     let mut sink = sink;
-    for command in commands {
+    let mut commands = commands;
+    while let Some(command) = commands.next() {
         // Room for the image that the command may take.
         if sink.make_room().is_err() {
             return Err(Stop::Fault(Fault::NoMemory));

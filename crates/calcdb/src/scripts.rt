@@ -9,17 +9,17 @@ ghost use Rattle.calcdb.specs.Reads.{ReadsAs};
 ghost use Rattle.calcdb.specs.Scripts as spec;
 ghost use Rattle.calcdb.specs.declared.scripts.ScriptFault.TheVariants as fault;
 
-use crate::commands::{Command, Names, ReadCommand};
+use crate::command_queue::CommandQueue;
+use crate::commands::{CommandLines, Names};
 use crate::faults::misreads::{FaultyLine, Misread};
 use crate::faults::unread::Unread;
 use crate::line_by_line::{LineReader, read_lines};
 use crate::lines::{first_word, is_allowed, is_comment};
 use crate::preambles::{Preamble, read_preamble};
-use crate::thread_commands::ThreadCommand;
-use procedure::{Catalog, Sequence, Value};
+use crate::thread_commands::ThreadCommands;
+use procedure::Catalog;
 use std::alloc::{AllocError, Allocator};
 use std::marker::Model;
-use steps::Arguments;
 
 /// Bytes of a script, and of any text that the program reads.
 pub(crate) const SCRIPT_BYTES: usize = 4_194_304;
@@ -43,38 +43,36 @@ impl From<AllocError> for ScriptFault {
 
 /// The commands that lines have said so far, and the procedures' names.
 #[derive(Drop)]
-struct Commands<C, A: Allocator> {
+struct Commands<L, A: Allocator> {
     names: Names<A>,
-    list: Vec<C, A>,
+    list: L,
 }
 
-impl<C, A: Allocator> Model for Commands<C, A> {
+impl<L, A: Allocator> Model for Commands<L, A> {
     ghost use Rattle.std.specs.Coded.{codes, coded_list, coded_ℕ};
     ghost use Rattle.std.specs.Ordering.{nat_cmp};
     ghost use Rattle.std.specs.Cmp.Lexicographic.{slice_cmp};
     ghost use Rattle.std.specs.FinMap as map;
     ghost use Rattle.calcdb.specs.Scripts.{Commands};
 
-    ghost Value = { Commands C };
+    ghost Value = { Commands L };
 
-    ghost coded = { Prim.hlevel (codes, map.code {R = slice_cmp nat_cmp} (coded_list coded_ℕ) coded_ℕ, C.code) };
+    ghost coded = { Prim.hlevel (codes, map.code {R = slice_cmp nat_cmp} (coded_list coded_ℕ) coded_ℕ, L.code) };
 
-    ghost view = { λ c. record { names = c.names; list = c.list.items } };
+    ghost view = { λ c. record { names = c.names; list = c.list } };
 }
 
-impl<C: ReadCommand<A> + Drop, A: Allocator + Clone> Commands<C, A> {
+impl<L: CommandLines<A> + Drop, A: Allocator> Commands<L, A> {
     /// Reads a command, by its first word and what stands after that.
     fn push(&mut self, word: &[u8], rest: &[u8]) -> Result<(), Unread>
-        ensures { ReadsAs (λ _. self.new) result (spec.with_command C.reads self.old (word.now ∷ words rest.now)) }
+        ensures { ReadsAs (λ _. self.new) result (spec.with_command L.added self.old (word.now ∷ words rest.now)) }
     {
-        let alloc = self.list.allocator().clone()?;
-        self.list.push(C::read(alloc, &self.names, word, rest)?)?;
-        Ok(())
+        self.list.read(&self.names, word, rest)
     }
 
     /// A line without a fault of its bytes.
     fn read_words(&mut self, line: &[u8]) -> Result<(), Unread>
-        ensures { ReadsAs (λ _. self.new) result (spec.commands_after_words C.reads self.old (words line.now)) }
+        ensures { ReadsAs (λ _. self.new) result (spec.commands_after_words L.added self.old (words line.now)) }
     {
         match first_word(line) {
             Some((word, rest)) if !is_comment(word) => self.push(word, rest),
@@ -83,8 +81,8 @@ impl<C: ReadCommand<A> + Drop, A: Allocator + Clone> Commands<C, A> {
     }
 }
 
-impl<C: ReadCommand<A> + Drop, A: Allocator + Clone> LineReader for Commands<C, A> {
-    ghost after = { spec.commands_after C.reads };
+impl<L: CommandLines<A> + Drop, A: Allocator> LineReader for Commands<L, A> {
+    ghost after = { spec.commands_after L.added };
 
     fn read_line(&mut self, line: &[u8]) -> Result<(), Unread> {
         if !is_allowed(line) {
@@ -96,35 +94,35 @@ impl<C: ReadCommand<A> + Drop, A: Allocator + Clone> LineReader for Commands<C, 
 
 /// A script: its procedures, and its commands in order.
 #[derive(Drop)]
-pub(crate) struct Script<C, A: Allocator> {
+pub(crate) struct Script<L, A: Allocator> {
     pub catalog: Catalog<A>,
-    pub commands: Sequence<C, A>,
+    pub commands: L,
 }
 
-impl<C, A: Allocator> Model for Script<C, A> {
+impl<L, A: Allocator> Model for Script<L, A> {
     ghost use Rattle.std.specs.Coded.{codes};
     ghost use Rattle.calcdb.specs.Scripts.{Script};
 
-    ghost Value = { Script C };
+    ghost Value = { Script L };
 
-    ghost coded = { Prim.hlevel (codes, C.code) };
+    ghost coded = { Prim.hlevel (codes, L.code) };
 
     ghost view = { λ s. record { catalog = s.catalog; commands = s.commands } };
 }
 
 /// A script of commands that are carried out one after another.
-pub(crate) type Schedule<A> = Script<Command<Arguments<A>>, A>;
+pub(crate) type Schedule<A> = Script<CommandQueue<A>, A>;
 
 /// A script of calls and checkpoints that are made in threads.
-pub(crate) type ThreadScript<A> = Script<ThreadCommand<Sequence<Value<A>, A>>, A>;
+pub(crate) type ThreadScript<A> = Script<ThreadCommands<A>, A>;
 
 /// Reads the commands after a preamble.
-fn read_commands<C: ReadCommand<A> + Drop, A: Allocator + Clone>(
+fn read_commands<L: CommandLines<A> + Drop, A: Allocator>(
     alloc: A,
     preamble: Preamble<'_, A>,
-) -> Result<Script<C, A>, ScriptFault>
+) -> Result<Script<L, A>, ScriptFault>
     requires { preamble.line + size (option_map (λ t. t.now) preamble.left) ≤ SCRIPT_BYTES + 2 }
-    ensures { TellsScript (λ s. s) result (spec.script_after C.reads (as_preamble preamble.entry)) }
+    ensures { TellsScript (λ s. s) result (spec.script_after L.added L.none (as_preamble preamble.entry)) }
 {
     let Preamble {
         names,
@@ -134,22 +132,22 @@ fn read_commands<C: ReadCommand<A> + Drop, A: Allocator + Clone>(
     } = preamble;
     let mut said = Commands {
         names,
-        list: Vec::new(alloc),
+        list: L::new(alloc),
     };
     read_lines(&mut said, line, left)?;
     let Commands { names: _, list } = said;
     Ok(Script {
         catalog,
-        commands: Sequence::new(list),
+        commands: list,
     })
 }
 
 /// The script that a text is.
-fn read_whole<C: ReadCommand<A> + Drop, A: Allocator + Copy>(
+fn read_whole<L: CommandLines<A> + Drop, A: Allocator + Copy>(
     alloc: A,
     text: &[u8],
-) -> Result<Script<C, A>, ScriptFault>
-    ensures { TellsScript (λ s. s) result (spec.script_of C.reads text.now) }
+) -> Result<Script<L, A>, ScriptFault>
+    ensures { TellsScript (λ s. s) result (spec.script_of L.added L.none text.now) }
 {
     let preamble = read_preamble(alloc, text)?;
     read_commands(alloc, preamble)

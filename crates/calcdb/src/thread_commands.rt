@@ -2,12 +2,13 @@
 
 ghost use Rattle.calcdb.specs.Commands as commands;
 ghost use Rattle.calcdb.specs.Lines.{words};
+ghost use Rattle.std.specs.Prelude.{◌≡◌, ◌∷◌};
 ghost use Rattle.calcdb.specs.Reads.{ReadsAs, ReadsExactly};
 ghost use Rattle.calcdb.specs.ThreadCommands as spec;
 ghost use Rattle.calcdb.specs.Values.{held_value_of};
 
 use crate::commands::{
-    Names, NewCall, ReadCommand, kind_of, number_at, procedure_at, session_at, values_of,
+    CommandLines, Names, NewCall, kind_of, number_at, procedure_at, session_at, values_of,
 };
 use crate::faults::misreads::{Misread, Quote};
 use crate::faults::unread::Unread;
@@ -18,6 +19,7 @@ use image::Kind;
 use procedure::limits::SESSIONS;
 use procedure::{Key, Sequence, Value};
 use std::alloc::Allocator;
+use std::marker::Model;
 
 /// The greatest number of a session.
 const LAST_SESSION: u16 = SESSIONS - 1;
@@ -54,11 +56,11 @@ fn call_of<A: Allocator + Clone>(
     let (session, rest) = session_at(LAST_SESSION, line)?;
     let (number, rest) = number_at(rest)?;
     let (procedure, rest) = procedure_at(names, rest)?;
-    let args = values_of(alloc, rest)?;
+    let args = values_of(alloc, procedure.arity(), rest)?;
     Ok(NewCall {
         session,
         number,
-        procedure,
+        procedure: procedure.number(),
         args,
     })
 }
@@ -88,15 +90,68 @@ fn command_name(word: &[u8]) -> Result<ThreadCommandName, Misread>
     }
 }
 
-impl<A: Allocator + Clone> ReadCommand<A> for ThreadCommand<Sequence<Value<A>, A>> {
-    ghost reads = { spec.thread_command_of };
+/// The command that a line is, by its first word and what stands after that.
+#[tactic(auto, unfolding(crate::specs::ThreadCommands::thread_command_of))]
+fn command_of<A: Allocator + Clone>(
+    alloc: A,
+    names: &Names<A>,
+    word: &[u8],
+    rest: &[u8],
+) -> Result<ThreadCommand<Sequence<Value<A>, A>>, Unread>
+    ensures { ReadsAs (λ c. c) result (spec.thread_command_of names.now (word.now ∷ words rest.now)) }
+{
+    match command_name(word)? {
+        ThreadCommandName::Call => Ok(ThreadCommand::Call(call_of(alloc, names, rest)?)),
+        ThreadCommandName::Checkpoint => Ok(ThreadCommand::Checkpoint(kind_of(rest)?)),
+        ThreadCommandName::View => Ok(ThreadCommand::View(key_alone(alloc, rest)?)),
+    }
+}
 
-    #[tactic(auto, unfolding(crate::specs::ThreadCommands::thread_command_of))]
-    fn read(alloc: A, names: &Names<A>, word: &[u8], rest: &[u8]) -> Result<Self, Unread> {
-        match command_name(word)? {
-            ThreadCommandName::Call => Ok(ThreadCommand::Call(call_of(alloc, names, rest)?)),
-            ThreadCommandName::Checkpoint => Ok(ThreadCommand::Checkpoint(kind_of(rest)?)),
-            ThreadCommandName::View => Ok(ThreadCommand::View(key_alone(alloc, rest)?)),
+/// The commands of a script that is run in threads, seen by contracts as the list of them.
+#[derive(Drop)]
+pub(crate) struct ThreadCommands<A: Allocator> {
+    list: Vec<ThreadCommand<Sequence<Value<A>, A>>, A>,
+}
+
+impl<A: Allocator> Model for ThreadCommands<A> {
+    ghost use Rattle.std.specs.Prelude.{List};
+    ghost use Rattle.std.specs.Coded.{codes, coded_list, coded_ℕ};
+    ghost use Rattle.procedure.specs.Bytes.{Bytes};
+    ghost use Rattle.calcdb.specs.declared.thread_commands.ThreadCommand.{ThreadCommand as SpecCommand};
+
+    ghost Value = { List (SpecCommand (List Bytes)) };
+
+    ghost coded = { Prim.hlevel (codes, coded_list (coded_list coded_ℕ)) };
+
+    ghost view = { λ c. c.list.items };
+}
+
+impl<A: Allocator> ThreadCommands<A> {
+    pub(crate) fn into_vec(self) -> Vec<ThreadCommand<Sequence<Value<A>, A>>, A>
+        ensures { result.items ≡ self }
+    {
+        self.list
+    }
+}
+
+impl<A: Allocator + Copy> CommandLines<A> for ThreadCommands<A> {
+    ghost use Rattle.std.specs.Prelude.{[]};
+    ghost use Rattle.calcdb.specs.Commands.{with_more};
+    ghost use Rattle.calcdb.specs.ThreadCommands.{thread_command_of};
+
+    ghost none = { [] };
+
+    ghost added = { with_more thread_command_of };
+
+    fn new(alloc: A) -> Self {
+        ThreadCommands {
+            list: Vec::new(alloc),
         }
+    }
+
+    fn read(&mut self, names: &Names<A>, word: &[u8], rest: &[u8]) -> Result<(), Unread> {
+        let alloc = self.list.allocator().clone()?;
+        self.list.push(command_of(alloc, names, word, rest)?)?;
+        Ok(())
     }
 }

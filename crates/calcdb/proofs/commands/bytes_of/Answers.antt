@@ -1,4 +1,4 @@
-use Rattle.std.proofs.Common.{◌∷◌, [], ◌∙◌, ℕ, List, Vec, sym, ap, map}
+use Rattle.std.proofs.Common.{◌∷◌, [], ◌∙◌, ℕ, List, Vec, Some, sym, ap, map}
 use Rattle.std.proofs.lemmas.List.{map-append}
 use Rattle.procedure.specs.Bytes.{Bytes}
 use Rattle.calcdb.specs.Lines.{words}
@@ -26,4 +26,7 @@ loop-word-preserved g c =
     ∙ l.invariant
 
 pub returns : goal.returns
-returns g c = sym c.loop-word.invariant ∙ all_values value_of (map (λ v. v.items) c.loop-word.values.items) (words c.loop-word.rest.now) c.in_default.ensures.words
+returns g c =
+    sym c.loop-word.invariant
+    ∙ all_values value_of (map (λ v. v.items) c.loop-word.values.items) (words c.loop-word.rest.now) c.in_default.ensures.words
+    ∙ ap (λ (vs : List (Vec ℕ g.row.A.Denot)). Some (map (λ v. v.items) vs)) (sym c.shrink_to_fit.ensures.items)

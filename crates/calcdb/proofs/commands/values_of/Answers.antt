@@ -23,4 +23,4 @@ loop-word-preserved g c =
 
 pub returns : goal.returns
 returns g c =
-    sym c.loop-word.invariant ∙ all_values held_value_of c.loop-word.values.items (words c.loop-word.rest.now) c.in_default.ensures.words ∙ ap (λ (vs : List Bytes). Some vs) (sym c.new.ensures)
+    sym c.loop-word.invariant ∙ all_values held_value_of c.loop-word.values.items (words c.loop-word.rest.now) c.in_default.ensures.words ∙ ap (λ (vs : List Bytes). Some vs) (sym (c.new.ensures ∙ c.shrink_to_fit.ensures.items))

@@ -15,7 +15,7 @@ returns-in-Ok-clause-err g c =
     let journal = c.run_on.new.journal in
     IfErr-weaker c.run_on.result _ _
     (λ s h. stops_begun g.row.A.Denot g.row.J-Failure.Denot (g.W.Write.contents c.args.writer.now) (g.W.Write.contents c.run_on.new.writer) (g.J.Journal.Has start journal) (g.J.Journal.HasFront start journal)
-    c.args.core c.args.commands.items h.0 s h.1)
+    c.args.core c.args.commands h.0 s h.1)
     (c.run_on.ensures.err start (c.in-Ok.ensures.ok c.requires.log))
 
 pub returns-in-Err-clause-err : goal.returns-in-Err-clause-err

@@ -1,4 +1,4 @@
-use Rattle.std.proofs.Common.{◌≡◌, ◌⊎◌, inr, subst}
+use Rattle.std.proofs.Common.{◌≡◌, ◌⊎◌, inr, refl, subst}
 use Rattle.std.proofs.lemmas.Result.{IfErr-weaker, IfOk-weaker}
 use Rattle.std.specs.Io.KnownBytes.{Appends}
 use Rattle.procedure.specs.Bytes.{Bytes}
@@ -22,7 +22,7 @@ returns-in-Ok-clause-ok g c =
     let images : Images = h.1 in
     subst (λ (x : Schedule). (first : CoreView) × (text : Bytes) × (images : Images) × IsOpened x.catalog c.args.opening first × g.P.Sink.Has r.images images × Carried {A = g.row.A.Denot} (CarriesAll x.catalog x.commands) first r.core text images ×
     Appends (g.W.Write.contents c.args.writer.now) (g.W.Write.contents c.run_begun.new.writer) text × g.J.Journal.Has start journal (taken_of r.core images)) c.script.view_is
-    (core, h.0, images, c.in-Ok.ensures.opened, h.2, carried_script s c.args.opening core r.core c.into_vec.result.items h.0 images c.in-Ok.ensures.opened c.into_vec.ensures h.3, h.4, h.5))
+    (core, h.0, images, c.in-Ok.ensures.opened, h.2, carried_script s c.args.opening core r.core c.script.inside.commands h.0 images c.in-Ok.ensures.opened refl h.3, h.4, h.5))
     c.run_begun.ensures.ok
 
 pub returns-in-Ok-clause-err : goal.returns-in-Ok-clause-err
@@ -39,7 +39,7 @@ returns-in-Ok-clause-err g c =
     (inr (
       core,
       c.in-Ok.ensures.opened,
-      stops_script g.row.A.Denot g.row.J-Failure.Denot old new (g.J.Journal.Has start journal) (g.J.Journal.HasFront start journal) s c.args.opening core c.into_vec.result.items stopped c.in-Ok.ensures.opened
-          c.into_vec.ensures h,
+      stops_script g.row.A.Denot g.row.J-Failure.Denot old new (g.J.Journal.Has start journal) (g.J.Journal.HasFront start journal) s c.args.opening core c.script.inside.commands stopped c.in-Ok.ensures.opened
+          refl h,
     )))
     c.run_begun.ensures.err

@@ -1,5 +1,4 @@
 use Rattle.std.proofs.Common.{◌≡◌, [], ◌++◌, List, length}
-use Rattle.std.specs.Vec.Iter.{into_iter_items, into_iter_len}
 use Rattle.std.specs.Io.KnownBytes.{Appends}
 use Rattle.procedure.specs.Bytes.{Bytes}
 use Rattle.calcdb.specs.Journals.{taken_of}
@@ -14,10 +13,12 @@ invariant-loop-command g l = record {
   text : Bytes;
   images : Images;
   has : g.P.Sink.Has l.sink images;
-  parts : l.fn.commands.items ≡ front ++ into_iter_items l.command-iterator;
+  parts : l.fn.commands ≡ front ++ l.commands;
   carried : Carried {A = g.row.A.Denot} (CarriesAll l.initial.core.catalog front) l.initial.core l.core text images;
   sent : Appends (g.W.Write.contents l.initial.writer) (g.W.Write.contents l.writer) text;
   catalog : l.core.catalog ≡ l.initial.core.catalog;
-  count : into_iter_len l.command-iterator ≡ length (into_iter_items l.command-iterator);
   kept : (start : g.row.J.Denot) → g.J.Journal.Has start l.initial.journal (taken_of l.initial.core []) → g.J.Journal.Has start l.journal (taken_of l.core images);
 }
+
+abbrev pub decreases-loop-command : goal.decreases-loop-command
+decreases-loop-command g l = length l.commands
