@@ -2,6 +2,7 @@
 use Rattle.std.specs.Prelude.{◌≡◌, ◌⊎◌, true, false, ℕ, zero, suc, codes, List, [], ◌∷◌, ◌++◌, length, replicate, Option, Some, None, Result, Ok, Err, slice_get}
 use Rattle.procedure.specs.Bytes.{Bytes}
 use Rattle.procedure.specs.Procedures.{Procedure}
+use Rattle.commitlog.specs.Records.{Record, Call, Token}
 use Rattle.steps.specs.CoreViews.{CoreView}
 use Rattle.phase.specs.Phases.{phase_text}
 use Rattle.steps.specs.Refusals.{abandon_error_text, advance_error_text, begin_error_text, capture_error_text, finish_error_text, start_error_text, step_error_text}
@@ -51,6 +52,15 @@ EndsScan n (Ok Slot) text = ⊥
 EndsScan n (Ok Done) text = text ≡ numbered_text (codes "slots ") n
 EndsScan n (Err e) text = text ≡ refused_text (capture_error_text e)
 
+-- the answer that stands at a place of the log
+abbrev pub answer_in : ℕ → Option Record → Bytes
+answer_in place None = []
+answer_in place (Some (Token p n)) = []
+answer_in place (Some (Call s n p args outcome replies)) = answer_text place outcome replies
+
+abbrev pub answered_text : List Record → ℕ → Bytes
+answered_text log place = answer_in place (slice_get log place)
+
 -- an image's text, and this one where there is none
 abbrev pub image_or : Option Image → Bytes → Bytes
 image_or None text = text
@@ -85,15 +95,17 @@ module _ {A : Type 0} where
   abbrev pub handled_text : Handled A → Bytes
   handled_text h = image_or h.image (reply_text h.reply)
 
-  -- what is printed of a command
-  abbrev pub shown_text : Shown A → Bytes
-  shown_text (shown.Reply r) = reply_text r
-  shown_text (shown.Image i) = image_text i
-  shown_text (shown.Scanned n) = numbered_text (codes "slots ") n
+  -- what is printed of a command, where this is the log
+  abbrev pub shown_text : List Record → Shown A → Bytes
+  shown_text log (shown.Reply r) = reply_text r
+  shown_text log (shown.Answered place) = answered_text log place
+  shown_text log (shown.Image i) = image_text i
+  shown_text log (shown.Scanned n) = numbered_text (codes "slots ") n
 
   -- the image that a command took, if it took one
   abbrev pub images_shown : Shown A → Images
   images_shown (shown.Reply r) = []
+  images_shown (shown.Answered place) = []
   images_shown (shown.Image i) = i ∷ []
   images_shown (shown.Scanned n) = []
 

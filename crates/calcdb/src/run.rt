@@ -1,12 +1,13 @@
 //! The commands of a script, carried out on a core.
 
-ghost use Rattle.std.specs.Prelude.{◌≡◌, ◌≤◌, ◌++◌, [], IfErr, IfOk, IfSome, OnErr, OnOk, codes, drop, length, slice_get};
+ghost use Rattle.std.specs.Prelude.{◌≡◌, ◌≤◌, ◌++◌, [], IfErr, IfOk, IfSome, List, OnErr, OnOk, codes, drop, length, slice_get};
 ghost use Rattle.std.specs.Io.KnownBytes.{Appends};
 ghost use Rattle.procedure.specs.Bytes.{Bytes};
+ghost use Rattle.commitlog.specs.Records.{Record as LogRecord};
 ghost use Rattle.phase.specs.Phases.{phase_text};
 ghost use Rattle.steps.specs.declared.schedules.Event.TheVariants as event;
 ghost use Rattle.calcdb.specs.Journals.{IsKept, SentUnlessUnkept, StopsIn, Taken, images_given, taken_of, with_more};
-ghost use Rattle.calcdb.specs.Runs.{Calls, Carried, Carries, CarriesAll, Ends, GoesOn, Images, Says, Scans, Sent, count_of, images_shown, reply_text, shown_text};
+ghost use Rattle.calcdb.specs.Runs.{Calls, Carried, Carries, CarriesAll, Ends, GoesOn, Images, Says, Scans, Sent, answered_text, count_of, images_shown, reply_text, shown_text};
 
 use crate::command_queue::CommandQueue;
 use crate::commands::{Command, NewCall};
@@ -17,6 +18,7 @@ use crate::output::{
 };
 use crate::show::write_image_lines;
 use crate::sinks::Sink;
+use commitlog::{Entry, Record};
 use image::Image;
 use phase::Phase;
 use procedure::NoMemory;
@@ -36,23 +38,36 @@ fn count_of<A: Allocator>(core: &Core<A>, procedure: u16) -> usize
     }
 }
 
+/// What is printed of a command.
+#[derive(Drop)]
+pub(crate) enum Shown<A: Allocator> {
+    /// The reply of its event, or of the one that ended it.
+    Reply(Reply<A>),
+    /// The answer of a call, which stands at this place of the core's log.
+    Answered(usize),
+    /// The image that it took.
+    Image(Image<A>),
+    /// How many places it visited of a scan that is over.
+    Scanned(usize),
+}
+
 /// Answers a session's call; it is given up where that is refused.
-fn end_call<A: Allocator + Clone>(core: &mut Core<A>, session: u16) -> Reply<A>
-    ensures { Carried {A = A} (Ends session) core.old core.new (reply_text result) [] }
+fn end_call<A: Allocator>(core: &mut Core<A>, session: u16) -> Shown<A>
+    ensures { Carried {A = A} (Ends session) core.old core.new (shown_text core.new.log result) (images_shown result) }
 {
-    match core.finish(session) {
-        Ok(answer) => Reply::Finish(Ok(answer)),
+    match core.finish_in_log(session) {
+        Ok(place) => Shown::Answered(place),
         Err(refused) => {
             let _given_up = core.give_up(session);
-            Reply::Finish(Err(refused))
+            Shown::Reply(Reply::Finish(Err(refused)))
         }
     }
 }
 
 /// Steps of a session's call until it is ready, at most `count`, and its end; it is given up where a
 /// step is refused.
-fn go_on<A: Allocator + Clone>(core: &mut Core<A>, session: u16, count: usize) -> Reply<A>
-    ensures { Carried {A = A} (GoesOn count session) core.old core.new (reply_text result) [] }
+fn go_on<A: Allocator + Clone>(core: &mut Core<A>, session: u16, count: usize) -> Shown<A>
+    ensures { Carried {A = A} (GoesOn count session) core.old core.new (shown_text core.new.log result) (images_shown result) }
 {
     for _ in 0..count {
         match core.step(session) {
@@ -60,7 +75,7 @@ fn go_on<A: Allocator + Clone>(core: &mut Core<A>, session: u16, count: usize) -
             Ok(Stepped::Ready) => return end_call(core, session),
             Err(refused) => {
                 let _given_up = core.give_up(session);
-                return Reply::Step(Err(refused));
+                return Shown::Reply(Reply::Step(Err(refused)));
             }
         }
     }
@@ -68,8 +83,8 @@ fn go_on<A: Allocator + Clone>(core: &mut Core<A>, session: u16, count: usize) -
 }
 
 /// Begins a call, executes it and returns it.
-fn run_call<A: Allocator + Clone>(core: &mut Core<A>, call: NewCall<Arguments<A>>) -> Reply<A>
-    ensures { Carried {A = A} (Calls core.old.catalog call) core.old core.new (reply_text result) [] }
+fn run_call<A: Allocator + Clone>(core: &mut Core<A>, call: NewCall<Arguments<A>>) -> Shown<A>
+    ensures { Carried {A = A} (Calls core.old.catalog call) core.old core.new (shown_text core.new.log result) (images_shown result) }
 {
     let NewCall {
         session,
@@ -80,7 +95,7 @@ fn run_call<A: Allocator + Clone>(core: &mut Core<A>, call: NewCall<Arguments<A>
     let count = count_of(core, procedure);
     match core.begin(session, number, procedure, args) {
         Ok(()) => go_on(core, session, count),
-        Err(refused) => Reply::Begin(Err(refused)),
+        Err(refused) => Shown::Reply(Reply::Begin(Err(refused))),
     }
 }
 
@@ -97,20 +112,9 @@ const DONE: &[u8] = b"done\n";
 
 const NONE: &[u8] = b"none\n";
 
-/// What is printed of a command.
-#[derive(Drop)]
-pub(crate) enum Shown<A: Allocator> {
-    /// The reply of its event, or of the one that ended it.
-    Reply(Reply<A>),
-    /// The image that it took.
-    Image(Image<A>),
-    /// How many places it visited of a scan that is over.
-    Scanned(usize),
-}
-
 /// Captures until no place is left, or one is refused.
 fn scan<A: Allocator + Clone>(core: &mut Core<A>) -> Shown<A>
-    ensures { Carried {A = A} Scans core.old core.new (shown_text result) (images_shown result) }
+    ensures { Carried {A = A} Scans core.old core.new (shown_text core.new.log result) (images_shown result) }
 {
     let before = core.scanned();
     loop {
@@ -122,9 +126,19 @@ fn scan<A: Allocator + Clone>(core: &mut Core<A>) -> Shown<A>
     }
 }
 
+/// Answers a session's call.
+fn finish<A: Allocator>(core: &mut Core<A>, session: u16) -> Shown<A>
+    ensures { Carried {A = A} (Says (event.Finish session)) core.old core.new (shown_text core.new.log result) (images_shown result) }
+{
+    match core.finish_in_log(session) {
+        Ok(place) => Shown::Answered(place),
+        Err(refused) => Shown::Reply(Reply::Finish(Err(refused))),
+    }
+}
+
 /// Takes the image that waits, if one does.
 fn take_image<A: Allocator>(core: &mut Core<A>) -> Shown<A>
-    ensures { Carried {A = A} (Says event.TakeImage) core.old core.new (shown_text result) (images_shown result) }
+    ensures { Carried {A = A} (Says event.TakeImage) core.old core.new (shown_text core.new.log result) (images_shown result) }
 {
     match core.take_image() {
         Some(image) => Shown::Image(image),
@@ -138,7 +152,7 @@ pub(crate) fn carry_out<A: Allocator + Clone>(
     core: &mut Core<A>,
     command: Command<Arguments<A>>,
 ) -> Shown<A>
-    ensures { Carried {A = A} (Carries core.old.catalog command) core.old core.new (shown_text result) (images_shown result) }
+    ensures { Carried {A = A} (Carries core.old.catalog command) core.old core.new (shown_text core.new.log result) (images_shown result) }
 {
     match command {
         Command::Begin(call) => {
@@ -152,9 +166,9 @@ pub(crate) fn carry_out<A: Allocator + Clone>(
             Shown::Reply(Reply::Begin(begun))
         }
         Command::Step(session) => Shown::Reply(Reply::Step(core.step(session))),
-        Command::Finish(session) => Shown::Reply(Reply::Finish(core.finish(session))),
+        Command::Finish(session) => finish(core, session),
         Command::GiveUp(session) => Shown::Reply(Reply::GiveUp(core.give_up(session))),
-        Command::Call(call) => Shown::Reply(run_call(core, call)),
+        Command::Call(call) => run_call(core, call),
         Command::Start(kind) => Shown::Reply(Reply::Start(core.start(kind))),
         Command::Advance => Shown::Reply(Reply::Advance(core.advance())),
         Command::Capture => Shown::Reply(Reply::Capture(core.capture())),
@@ -208,26 +222,53 @@ fn push_reply<A: Allocator + Clone>(out: &mut Vec<u8, A>, reply: &Reply<A>) -> R
     }
 }
 
-/// The lines that are printed of a command, after what is there.
-pub(crate) fn push_shown<A: Allocator + Clone>(
+/// The line of the answer that stands at a place of the log.
+fn push_answered<A: Allocator + Clone>(
     out: &mut Vec<u8, A>,
+    records: &[Record<A>],
+    place: usize,
+) -> Result<(), NoMemory>
+    ensures { OnOk result (out.new.items ≡ out.old.items ++ answered_text records.now place) }
+{
+    let Some(record) = records.get(place) else {
+        return Ok(());
+    };
+    match record.entry() {
+        Entry::Call {
+            outcome,
+            replies,
+            ..
+        } => push_answer(out, place as u64, *outcome, replies.as_slice()),
+        Entry::Token { .. } => Ok(()),
+    }
+}
+
+/// The lines that are printed of a command, after what is there.
+fn push_shown<A: Allocator + Clone>(
+    out: &mut Vec<u8, A>,
+    records: &[Record<A>],
     shown: &Shown<A>,
 ) -> Result<(), NoMemory>
-    ensures { OnOk result (out.new.items ≡ out.old.items ++ shown_text shown.now) }
+    ensures { OnOk result (out.new.items ≡ out.old.items ++ shown_text records.now shown.now) }
 {
     match shown {
         Shown::Reply(reply) => push_reply(out, reply),
+        Shown::Answered(place) => push_answered(out, records, *place),
         Shown::Image(image) => push_image(out, image),
         Shown::Scanned(count) => push_numbered(out, b"slots ", *count as u64),
     }
 }
 
 /// The lines that are printed of a command, in place of what was there.
-fn print_line<A: Allocator + Clone>(line: &mut Vec<u8, A>, shown: &Shown<A>) -> Result<(), NoMemory>
-    ensures { OnOk result (line.new.items ≡ shown_text shown.now) }
+fn print_line<A: Allocator + Clone>(
+    line: &mut Vec<u8, A>,
+    records: &[Record<A>],
+    shown: &Shown<A>,
+) -> Result<(), NoMemory>
+    ensures { OnOk result (line.new.items ≡ shown_text records.now shown.now) }
 {
     line.clear();
-    push_shown(line, shown)
+    push_shown(line, records, shown)
 }
 
 /// Hands on the image that a command took, if it took one.
@@ -244,7 +285,7 @@ fn hand_on<P: Sink<Image<A>>, A: Allocator>(sink: &mut P, shown: Shown<A>)
 
 /// The line of a command that needs no buffer, since it is always the same.
 fn fixed_line<A: Allocator>(shown: &Shown<A>) -> Option<&'static [u8]>
-    ensures { IfSome result (λ line. line.now ≡ shown_text shown.now) }
+    ensures { (log : List LogRecord) → IfSome result (λ line. line.now ≡ shown_text log shown.now) }
 {
     let Shown::Reply(reply) = shown else {
         return None;
@@ -275,9 +316,10 @@ fn write_line<W: Write>(writer: &mut W, line: &[u8]) -> Result<(), Fault>
 fn write_shown<W: Write, A: Allocator + Clone>(
     writer: &mut W,
     line: &mut Vec<u8, A>,
+    records: &[Record<A>],
     shown: &Shown<A>,
 ) -> Result<(), Fault>
-    ensures { Sent result (W.contents writer.old) (W.contents writer.new) (shown_text shown.now) }
+    ensures { Sent result (W.contents writer.old) (W.contents writer.new) (shown_text records.now shown.now) }
 {
     if let Shown::Image(image) = shown {
         return write_image_lines(writer, line, image);
@@ -285,7 +327,7 @@ fn write_shown<W: Write, A: Allocator + Clone>(
     if let Some(fixed) = fixed_line(shown) {
         return write_line(writer, fixed);
     }
-    match print_line(line, shown) {
+    match print_line(line, records, shown) {
         Ok(()) => write_line(writer, line.as_slice()),
         Err(NoMemory) => Err(Fault::NoMemory),
     }
@@ -342,7 +384,7 @@ fn answer<P: Sink<Image<A>>, J: Journal<R, A>, R, W: Write, A: Allocator + Copy>
         Ok(()) => {}
         Err(failure) => return Err(Stop::Journal(failure)),
     }
-    match write_shown(writer, line, &shown) {
+    match write_shown(writer, line, core.records(), &shown) {
         Ok(()) => {}
         Err(fault) => return Err(Stop::Fault(fault)),
     }

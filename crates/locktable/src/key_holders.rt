@@ -1,7 +1,9 @@
 //! The holders of each key that is held.
 
-ghost use Rattle.std.specs.Prelude.{◌≡◌, ◌≢◌, ◌<◌, ◌↔◌, Err, IfOk, IsSome, OnErr, OnOk, Some};
+ghost use Rattle.std.specs.Prelude.{◌≡◌, ◌≢◌, ◌<◌, ◌↔◌, Err, IfOk, IfSome, IsSome, OnErr, OnOk, Some, nat_eq, option_map, slice_get};
 ghost use Rattle.std.specs.FinMap as map;
+ghost use Rattle.std.specs.Cmp.Lexicographic.{pointwise};
+ghost use Rattle.indexmap.specs.IndexMap.{get};
 ghost use Rattle.locktable.specs.Holders.{ChangesTo, Refuses, mode_among, mode_in};
 ghost use Rattle.locktable.specs.Modes.{IsAtMost, stronger};
 ghost use Rattle.locktable.specs.Tables.{SetsMode, with_key};
@@ -17,11 +19,13 @@ use std::alloc::Allocator;
 use std::hash::{BuildHasherDefault, FoldHasher};
 use std::marker::Model;
 
+type Entries<A> = IndexMap<Key, Holders, BuildHasherDefault<FoldHasher>, A>;
+
 /// The sessions that hold each key, seen by contracts as a finite map. A key that nobody holds
 /// takes no place.
 #[derive(Debug, Drop)]
 pub(crate) struct KeyHolders<A: Allocator> {
-    entries: IndexMap<Key, Holders, BuildHasherDefault<FoldHasher>, A>,
+    entries: Entries<A>,
 }
 
 impl<A: Allocator> Model for KeyHolders<A> {
@@ -71,6 +75,23 @@ fn join<A: Allocator>(
     }
     *holders = after;
     Ok(held)
+}
+
+/// Where a key stands, and who holds it. The last entry is looked at first, without a hash: a session lets go of
+/// its last key first, which mostly is the last one of all.
+#[inline(always)]
+fn position<A: Allocator>(entries: &Entries<A>, key: &Key) -> Option<(usize, Holders)>
+    ensures value { option_map (λ p. p.1) result ≡ get (pointwise nat_eq) entries.now key.now }
+    ensures entry { IfSome result (λ p. slice_get entries.now.entries p.0 ≡ Some (key.now, p.1)) }
+{
+    let last = entries.len().saturating_sub(1);
+    match entries.get_index(last) {
+        Some((there, holders)) if there == key => Some((last, *holders)),
+        _ => match entries.get_full(key) {
+            Some((index, _key, holders)) => Some((index, *holders)),
+            None => None,
+        },
+    }
 }
 
 impl<A: Allocator + Copy> KeyHolders<A> {
@@ -131,7 +152,7 @@ impl<A: Allocator> KeyHolders<A> {
         requires weaker { IsAtMost mode (mode_among (map.get self.old key.now) session) }
         ensures { SetsMode self.old self.new session key.now mode }
     {
-        let Some((index, _key, holders)) = self.entries.get_full(key) else {
+        let Some((index, holders)) = position(&self.entries, key) else {
             return;
         };
         match holders.weakened(session, mode) {

@@ -9,3 +9,4 @@ pub mod KeptInstructions
 pub mod LockGrants
 pub mod BarredTouches
 pub mod SteppedSession
+pub mod FoundCalls

@@ -1,6 +1,7 @@
 //! How a call is answered.
 
 ghost use Rattle.std.specs.Prelude.{◌≡◌, ◌≤◌, ◌≢◌, ◌==◌, ◌↔◌, ◌||◌, ◌++◌, ◌∷◌, [], ℕ, ◌+◌, IfOk, IsOk, OnErr, OnOk, None, Some, option_copied, if◌then◌else◌, is_some, length, map, max, slice_index_or, slice_set, vec_len};
+ghost use Rattle.std.specs.Result.{result_err};
 ghost use Rattle.procedure.specs.Bytes.{Bytes};
 ghost use Rattle.procedure.specs.declared.outcomes.TheConstants.{COMMITTED};
 ghost use Rattle.commitlog.specs.Records.{Call as Answered, IsInRange, call_of};
@@ -158,26 +159,10 @@ fn copy_of_replies<A: Allocator + Clone>(
     Ok(copy)
 }
 
-/// How a call ends.
-#[derive(Drop)]
-struct Ending<A: Allocator> {
-    outcome: u8,
-    /// A copy of its replies.
-    replies: Vec<Option<Value<A>>, A>,
-    /// How many writes are noted.
-    writes: usize,
-}
-
-/// How an open call ends, where it may be answered: a full log takes no record.
-fn ending_of<A: Allocator + Clone>(
-    alloc: &A,
-    call: &OpenCall<A>,
-    full: bool,
-) -> Result<Ending<A>, FinishError>
-    ensures refusal { Answers (unanswered call.now.machine.progress full) refused.NoMemory result }
-    ensures outcome { IfOk result (λ e. e.outcome ≡ call.now.machine.progress.outcome) }
-    ensures replies { IfOk result (λ e. e.replies.items ≡ call.now.machine.progress.replies) }
-    ensures writes { IfOk result (λ e. e.writes ≡ length call.now.notes.items) }
+/// How an open call ended, where it may be answered: a full log takes no record.
+fn outcome_of<A: Allocator>(call: &OpenCall<A>, full: bool) -> Result<u8, FinishError>
+    ensures refusal { result_err result ≡ unanswered call.now.machine.progress full }
+    ensures outcome { IfOk result (λ o. o ≡ call.now.machine.progress.outcome) }
 {
     let Some(outcome) = call.machine.ended() else {
         return Err(FinishError::NotReady);
@@ -185,14 +170,7 @@ fn ending_of<A: Allocator + Clone>(
     if full {
         return Err(FinishError::LogFull);
     }
-    match copy_of_replies(alloc, call.machine.replies()) {
-        Ok(replies) => Ok(Ending {
-            outcome,
-            replies,
-            writes: call.notes.len(),
-        }),
-        Err(NoMemory) => Err(FinishError::NoMemory),
-    }
+    Ok(outcome)
 }
 
 /// What a finished call is answered.
@@ -205,6 +183,25 @@ pub struct Answer<A: Allocator> {
 }
 
 impl<A: Allocator + Clone> Core<A> {
+    /// What a session's call is to be answered, with a copy of its replies.
+    fn answer_to(&self, session: u16) -> Result<Answer<A>, FinishError>
+        ensures answer { IfOk result (λ a. OfOpen self.now session (λ c. AnswersCall self.now c a.place a.outcome a.replies)) }
+        ensures refusal { Answers (finish_refusal self.now session) refused.NoMemory result }
+    {
+        let Some(call) = call_of(self.calls.as_slice(), usize::from(session)) else {
+            return Err(FinishError::NotActive);
+        };
+        let outcome = outcome_of(call, self.log.is_full())?;
+        match copy_of_replies(&self.alloc, call.machine.replies()) {
+            Ok(replies) => Ok(Answer {
+                place: self.log.len(),
+                outcome,
+                replies: Sequence::new(replies),
+            }),
+            Err(NoMemory) => Err(FinishError::NoMemory),
+        }
+    }
+
     /// A session's call is answered: it stands in the log from then on, with its outcome and replies.
     /// Where it commits its writes are kept, and else they are undone; its locks go. With a refusal the
     /// call is as before, and may be finished later.
@@ -214,15 +211,27 @@ impl<A: Allocator + Clone> Core<A> {
         ensures refused { OnErr result (self.new ≡ self.old) }
         ensures refusal { Answers (finish_refusal self.old session) refused.NoMemory result }
     {
+        let answer = self.answer_to(session)?;
+        self.finish_in_log(session)?;
+        Ok(answer)
+    }
+}
+
+impl<A: Allocator> Core<A> {
+    /// As `finish`, where the log alone is to have the answer: its place there is returned, and no reply
+    /// is copied. `records` has the outcome and the replies at that place.
+    pub fn finish_in_log(&mut self, session: u16) -> Result<usize, FinishError>
+        ensures finished { OnOk result (OfOpen self.old session (Finishes self.old self.new session)) }
+        ensures place { IfOk result (λ place. place ≡ length self.old.log) }
+        ensures refused { OnErr result (self.new ≡ self.old) }
+        ensures refusal { Answers (finish_refusal self.old session) refused.NoMemory result }
+    {
         let index = usize::from(session);
         let Some(call) = call_of(self.calls.as_slice(), index) else {
             return Err(FinishError::NotActive);
         };
-        let Ending {
-            outcome,
-            replies,
-            writes,
-        } = ending_of(&self.alloc, call, self.log.is_full())?;
+        let outcome = outcome_of(call, self.log.is_full())?;
+        let writes = call.notes.len();
         let phase = self.phase;
         match make_room(&mut self.changed, &mut self.log, writes) {
             Ok(()) => {}
@@ -246,11 +255,7 @@ impl<A: Allocator + Clone> Core<A> {
                 self.aside = self.aside.after_release();
                 self.active.clear(index);
                 self.last[index] = Some(number);
-                Ok(Answer {
-                    place,
-                    outcome,
-                    replies: Sequence::new(replies),
-                })
+                Ok(place)
             }
             None => Err(FinishError::NotActive),
         }

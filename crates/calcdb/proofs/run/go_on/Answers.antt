@@ -3,7 +3,7 @@ use Rattle.steps.specs.CoreViews.{CoreView}
 use Rattle.procedure.specs.Bytes.{Bytes}
 use Rattle.image.specs.Images.{Image}
 use Rattle.steps.specs.declared.schedules.Reply.TheVariants as reply
-use Rattle.calcdb.specs.Runs.{Carried, GoesOn, reply_text}
+use Rattle.calcdb.specs.Runs.{Carried, GoesOn, images_shown, reply_text, shown_text}
 use Rattle.calcdb.proofs.Carrying.{made_ready, ran, step_refused}
 use Rattle.calcdb.proofs.run.go_on.Goals as goal
 
@@ -12,8 +12,8 @@ returns-in-Ok-Ready g c =
     let l = c.loop in
     let h = c.step.ensures in
     let s = c.args.session in
-    let text : Bytes = reply_text c.end_call.result in
-    let images : List Image = [] in
+    let text : Bytes = shown_text c.end_call.new.core.log c.end_call.result in
+    let images : List Image = images_shown c.end_call.result in
     let new : CoreView = c.end_call.new.core in
     let n : ℕ = c.args.count - (l.counter + 1) in
     let k : suc n ≡ c.args.count - l.counter = omega (arith, c.loop-test.true) in
@@ -53,7 +53,7 @@ loop-preserved g c = λ new text images on.
 pub returns : goal.returns
 returns g c =
     let l = c.loop in
-    let text : Bytes = reply_text c.end_call-2.result in
-    let images : List Image = [] in
+    let text : Bytes = shown_text c.end_call-2.new.core.log c.end_call-2.result in
+    let images : List Image = images_shown c.end_call-2.result in
     let k : 0 ≡ c.args.count - l.counter = omega (arith, c.loop-test.false) in
     l.invariant c.end_call-2.new.core text images (subst (λ m. Carried {A = g.row.A.Denot} (GoesOn m c.args.session) l.core c.end_call-2.new.core text images) k c.end_call-2.ensures)

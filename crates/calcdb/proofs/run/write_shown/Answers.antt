@@ -9,4 +9,4 @@ returns-in-Image g c =
     let old = g.W.Write.contents c.args.writer.now in
     let new = g.W.Write.contents c.write_image_lines.new.writer in
     let h = c.write_image_lines.ensures in
-    subst (λ (x : Shown g.row.A.Denot). Sent c.write_image_lines.result old new (shown_text x)) (sym c.in-Image.is) (sent_lines c.write_image_lines.result old new _ h.ok h.err)
+    subst (λ (x : Shown g.row.A.Denot). Sent c.write_image_lines.result old new (shown_text c.args.records.now x)) (sym c.in-Image.is) (sent_lines c.write_image_lines.result old new _ h.ok h.err)

@@ -28,8 +28,7 @@ returns-in-Some-weakened g c =
     let k = c.args.key.now in
     let after = c.in-Some-weakened.after in
     let here = get-view es c.args.self.now c.self.view_is k in
-    let at = c.in-Some.ensures.entry ∙ ap (λ (x : Bytes). Some (x, c.in-Some.holders.now)) (sym (stored_key es k c.in-Some._key.now (sym c.in-Some.ensures.key))) in
-    let updates = updates-with_value_at c.self.inside.entries c.in-Some.index after nat_list_eq_equiv c.pair_mut-place.ensures.unique k c.in-Some.holders.now at in
+    let updates = updates-with_value_at c.self.inside.entries c.in-Some.index after nat_list_eq_equiv c.pair_mut-place.ensures.unique k c.in-Some.holders c.in-Some.ensures.entry in
     sets_mode c.args.self.now _ c.args.session k c.args.mode (Some after)
     (index-with_entry es _ k (Some after) updates.0 ∙ ap (λ (m : KeyMap Holders). with_entry m k (Some after)) c.self.view_is)
     (subst (λ o. ChangesTo o (Some after) c.args.session c.args.mode) (c.in-Some.ensures.value ∙ sym here) c.in-Some-weakened.ensures.others)
@@ -40,10 +39,9 @@ returns-in-None g c =
     let es = c.self.inside.entries.entries in
     let k = c.args.key.now in
     let here = get-view es c.args.self.now c.self.view_is k in
-    let same = stored_key es k c.in-Some._key.now (sym c.in-Some.ensures.key) in
     let updates = at_some c.swap_remove_index-last.result _ c.swap_remove_index-last.ensures.updates _ (c.swap_remove_index-last.ensures.entry ∙ c.in-Some.ensures.entry) in
     sets_mode c.args.self.now _ c.args.session k c.args.mode None
-    (index-with_entry es c.swap_remove_index-last.new.self.entries k None (subst (λ (x : Bytes). (q : Bytes) → at_key c.swap_remove_index-last.new.self.entries q ≡ cond (pointwise nat_eq x q) None (at_key es q)) (sym same) updates.0)
+    (index-with_entry es c.swap_remove_index-last.new.self.entries k None updates.0
     ∙ ap (λ (m : KeyMap Holders). with_entry m k None) c.self.view_is)
     (subst (λ o. ChangesTo o None c.args.session c.args.mode) (c.in-Some.ensures.value ∙ sym here) c.in-None.ensures.others)
     (if_some None tt)

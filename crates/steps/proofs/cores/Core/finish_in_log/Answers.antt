@@ -18,13 +18,9 @@ use Rattle.steps.specs.declared.errors.FinishError.TheVariants as refused
 use Rattle.steps.proofs.machine.OpenCalls.{same_Some}
 use Rattle.steps.proofs.sessions.AnsweredCall.{finish_core, finish_view, in_range}
 use Rattle.steps.proofs.sessions.EndedCall.{within}
-use Rattle.steps.proofs.sessions.CallProgress.{not_active, other_rooms, outcome_is, ready, refusal_is, replies_are, roomy_core, same_test}
-use Rattle.steps.proofs.cores.Core.finish.Goals as goal
-
--- the call that was looked up, as it stands in the core
-held_at :
-    {A : Type 0} (c : Inside A) (k : OpenCall A) {s i : ℕ} {l : List (Option (OpenCall A))} → i ≡ s → l ≡ c.calls.items → Some k ≡ slice_index_or l i None → call_at c s ≡ Some k
-held_at c k {i = i} at same found = ap (call_at c) (sym at) ∙ sym (found ∙ ap (λ l. slice_index_or l i None) same)
+use Rattle.steps.proofs.sessions.CallProgress.{other_rooms, ready, roomy_core}
+use Rattle.steps.proofs.sessions.FoundCalls.{absent_refusal, found_at, found_refusal}
+use Rattle.steps.proofs.cores.Core.finish_in_log.Goals as goal
 
 -- the call that was looked up is the one that is taken
 same_call :
@@ -36,7 +32,7 @@ end_call-notes-requires-clause-range g c =
     let is : call_at c.self.inside c.args.session ≡ Some c.in-Some-taken.call = ap (call_at c.self.inside) (sym c.from-index.ensures) ∙ sym c.in-Some-taken.ensures.value in
     let one = same_call c.in-Some.call.now c.in-Some-taken.call c.from-index.result c.in-Some.ensures c.as_slice.ensures.value c.in-Some-taken.ensures.value in
     let outcome = c.in_ok-outcome.ensures.outcome ∙ ap (λ (k : OpenCall g.row.A.Denot). k.machine.progress.outcome) one in
-    in_range c.self.inside c.self.invariant c.args.session c.in-Some-taken.call is c.in_ok-outcome.field-0.outcome outcome
+    in_range c.self.inside c.self.invariant c.args.session c.in-Some-taken.call is c.in_ok-outcome.outcome outcome
 
 pub invariant_of-self : goal.invariant_of-self
 invariant_of-self g c =
@@ -62,12 +58,12 @@ invariant_of-self-in-Some-taken g c =
     let is : call_at c.self.inside c.args.session ≡ Some c.in-Some-taken.call = ap (call_at c.self.inside) (sym c.from-index.ensures) ∙ sym c.in-Some-taken.ensures.value in
     let one = same_call c.in-Some.call.now c.in-Some-taken.call c.from-index.result c.in-Some.ensures c.as_slice.ensures.value c.in-Some-taken.ensures.value in
     let outcome = c.in_ok-outcome.ensures.outcome ∙ ap (λ (k : OpenCall g.row.A.Denot). k.machine.progress.outcome) one in
-    let done = ready c.in-Some.call.now.machine.progress c.is_full.result c.in_ok-outcome.ensures.refusal in
+    let done = ready c.in-Some.call.now.machine.progress c.is_full.result (sym c.in_ok-outcome.ensures.refusal) in
     let ends = ap (λ (k : OpenCall g.row.A.Denot). is_nil k.machine.progress.rest) (sym one) ∙ done.0 in
-    let log_is = c.end_call-notes.ensures.log ∙ ap (λ (l : List Record). l ++ Call c.args.session c.in-Some-taken.call.number c.in-Some-taken.call.procedure c.in-Some-taken.call.machine.args c.in_ok-outcome.field-0.outcome
+    let log_is = c.end_call-notes.ensures.log ∙ ap (λ (l : List Record). l ++ Call c.args.session c.in-Some-taken.call.number c.in-Some-taken.call.procedure c.in-Some-taken.call.machine.args c.in_ok-outcome.outcome
     c.in-Some-taken.call.machine.progress.replies ∷ []) c.make_room.ensures.records in
     let calls_are = c.in-Some-taken.ensures.some ∙ ap (λ i. slice_set c.self.inside.calls.items i None) c.from-index.ensures in
-    let collecting = λ (q : Bytes). c.end_call-notes.ensures.collecting q ∙ ap (λ (k : KeySet). cond (c.in_ok-outcome.field-0.outcome == COMMITTED)
+    let collecting = λ (q : Bytes). c.end_call-notes.ensures.collecting q ∙ ap (λ (k : KeySet). cond (c.in_ok-outcome.outcome == COMMITTED)
     (is_some (first_noted (map noted_of c.in-Some-taken.call.notes.items) q) || has k q) (has k q)) c.make_room.ensures.collecting in
     let frozen = c.end_call-notes.ensures.frozen ∙ c.make_room.ensures.frozen in
     let locks_are = c.release_all.ensures ∙ ap (without_locks c.self.inside.locks) c.from-index.ensures in
@@ -76,7 +72,7 @@ invariant_of-self-in-Some-taken g c =
     let last = with_item c.self.inside.last c.from-index.result (Some c.in-Some-taken.call.number) in
     other_rooms _
     (finish_core c.self.inside c.self.invariant c.args.session c.in-Some-taken.call is c.end_call-notes.new.log c.end_call-notes.new.store c.release_all.new.self c.end_call-notes.new.changed c.taken.new.kept c.clear.new.self
-    last c.after_release-self-inside.result c.in_ok-outcome.field-0.outcome outcome ends log_is calls_are c.end_call-notes.ensures.versions collecting frozen locks_are starts last_is c.end_call-notes.ensures.most
+    last c.after_release-self-inside.result c.in_ok-outcome.outcome outcome ends log_is calls_are c.end_call-notes.ensures.versions collecting frozen locks_are starts last_is c.end_call-notes.ensures.most
     c.end_call-notes.ensures.keys c.after_release-self-inside.ensures) c.keep_room.new.rooms
 
 pub returns-in-Some-taken-clause-finished : goal.returns-in-Some-taken-clause-finished
@@ -84,12 +80,12 @@ returns-in-Some-taken-clause-finished g c =
     let is : call_at c.self.inside c.args.session ≡ Some c.in-Some-taken.call = ap (call_at c.self.inside) (sym c.from-index.ensures) ∙ sym c.in-Some-taken.ensures.value in
     let one = same_call c.in-Some.call.now c.in-Some-taken.call c.from-index.result c.in-Some.ensures c.as_slice.ensures.value c.in-Some-taken.ensures.value in
     let outcome = c.in_ok-outcome.ensures.outcome ∙ ap (λ (k : OpenCall g.row.A.Denot). k.machine.progress.outcome) one in
-    let done = ready c.in-Some.call.now.machine.progress c.is_full.result c.in_ok-outcome.ensures.refusal in
+    let done = ready c.in-Some.call.now.machine.progress c.is_full.result (sym c.in_ok-outcome.ensures.refusal) in
     let ends = ap (λ (k : OpenCall g.row.A.Denot). is_nil k.machine.progress.rest) (sym one) ∙ done.0 in
-    let log_is = c.end_call-notes.ensures.log ∙ ap (λ (l : List Record). l ++ Call c.args.session c.in-Some-taken.call.number c.in-Some-taken.call.procedure c.in-Some-taken.call.machine.args c.in_ok-outcome.field-0.outcome
+    let log_is = c.end_call-notes.ensures.log ∙ ap (λ (l : List Record). l ++ Call c.args.session c.in-Some-taken.call.number c.in-Some-taken.call.procedure c.in-Some-taken.call.machine.args c.in_ok-outcome.outcome
     c.in-Some-taken.call.machine.progress.replies ∷ []) c.make_room.ensures.records in
     let calls_are = c.in-Some-taken.ensures.some ∙ ap (λ i. slice_set c.self.inside.calls.items i None) c.from-index.ensures in
-    let collecting = λ (q : Bytes). c.end_call-notes.ensures.collecting q ∙ ap (λ (k : KeySet). cond (c.in_ok-outcome.field-0.outcome == COMMITTED)
+    let collecting = λ (q : Bytes). c.end_call-notes.ensures.collecting q ∙ ap (λ (k : KeySet). cond (c.in_ok-outcome.outcome == COMMITTED)
     (is_some (first_noted (map noted_of c.in-Some-taken.call.notes.items) q) || has k q) (has k q)) c.make_room.ensures.collecting in
     let frozen = c.end_call-notes.ensures.frozen ∙ c.make_room.ensures.frozen in
     let locks_are = c.release_all.ensures ∙ ap (without_locks c.self.inside.locks) c.from-index.ensures in
@@ -97,46 +93,35 @@ returns-in-Some-taken-clause-finished g c =
     let last_is = ap (λ i. slice_set c.self.inside.last.items i (Some c.in-Some-taken.call.number)) c.from-index.ensures in
     let last = with_item c.self.inside.last c.from-index.result (Some c.in-Some-taken.call.number) in
     finish_view c.self.inside c.self.invariant c.args.session c.in-Some-taken.call is c.end_call-notes.new.log c.end_call-notes.new.store c.release_all.new.self c.end_call-notes.new.changed c.taken.new.kept c.clear.new.self
-    last c.after_release-self-inside.result c.in_ok-outcome.field-0.outcome outcome ends log_is calls_are c.end_call-notes.ensures.versions collecting frozen locks_are starts last_is c.end_call-notes.ensures.most
+    last c.after_release-self-inside.result c.in_ok-outcome.outcome outcome ends log_is calls_are c.end_call-notes.ensures.versions collecting frozen locks_are starts last_is c.end_call-notes.ensures.most
     c.end_call-notes.ensures.keys c.after_release-self-inside.ensures c.end_call-notes.ensures.slots c.end_call-notes.ensures.same c.args.self.now c.self.view_is
 
 pub returns-in_default-clause-refusal : goal.returns-in_default-clause-refusal
 returns-in_default-clause-refusal g c =
-    let none : call_at c.self.inside c.args.session ≡ None = ap (call_at c.self.inside) (sym c.from-index.ensures)
-    ∙ sym (c.in_default.ensures ∙ ap (λ (l : List (Option (OpenCall g.row.A.Denot))). slice_index_or l c.from-index.result None) c.as_slice.ensures.value) in
-    inl (not_active c.self.inside c.self.invariant c.args.self.now c.self.view_is c.args.session none)
+    let none = found_at c.self.inside None c.from-index.ensures c.as_slice.ensures.value c.in_default.ensures in
+    inl (absent_refusal c.self.inside c.self.invariant c.args.self.now c.self.view_is c.args.session none)
 
 pub returns-in_err-outcome-clause-refusal : goal.returns-in_err-outcome-clause-refusal
 returns-in_err-outcome-clause-refusal g c =
-    let is : call_at c.self.inside c.args.session ≡ Some c.in-Some.call.now = held_at c.self.inside c.in-Some.call.now c.from-index.ensures c.as_slice.ensures.value c.in-Some.ensures in
-    let full = same_test c.is_full.result (length c.args.self.now.log) LOG_RECORDS (λ e. ap (λ (v : CoreView). length v.log) (sym c.self.view_is) ∙ c.is_full.ensures.value.0 e)
-    (λ e. c.is_full.ensures.value.1 (ap (λ (v : CoreView). length v.log) c.self.view_is ∙ e)) in
-    subst (λ o. Answers o refused.NoMemory c.from_residual.result) (sym (refusal_is c.self.inside c.self.invariant c.args.self.now c.self.view_is c.args.session c.in-Some.call.now c.is_full.result is full)) (search rules)
+    let is = found_at c.self.inside (Some c.in-Some.call.now) c.from-index.ensures c.as_slice.ensures.value c.in-Some.ensures in
+    let refusal = found_refusal c.self.inside c.self.invariant c.args.self.now c.self.view_is c.args.session c.in-Some.call.now is c.is_full.result c.is_full.ensures.value in
+    subst (λ o. Answers o refused.NoMemory c.from_residual.result) (sym refusal) (search rules)
 
 pub returns-in-Err-clause-refusal : goal.returns-in-Err-clause-refusal
 returns-in-Err-clause-refusal g c =
-    let is : call_at c.self.inside c.args.session ≡ Some c.in-Some.call.now = held_at c.self.inside c.in-Some.call.now c.from-index.ensures c.as_slice.ensures.value c.in-Some.ensures in
-    let full = same_test c.is_full.result (length c.args.self.now.log) LOG_RECORDS (λ e. ap (λ (v : CoreView). length v.log) (sym c.self.view_is) ∙ c.is_full.ensures.value.0 e)
-    (λ e. c.is_full.ensures.value.1 (ap (λ (v : CoreView). length v.log) c.self.view_is ∙ e)) in
-    inr (refusal_is c.self.inside c.self.invariant c.args.self.now c.self.view_is c.args.session c.in-Some.call.now c.is_full.result is full ∙ c.in_ok-outcome.ensures.refusal, refl)
+    let is = found_at c.self.inside (Some c.in-Some.call.now) c.from-index.ensures c.as_slice.ensures.value c.in-Some.ensures in
+    inr (found_refusal c.self.inside c.self.invariant c.args.self.now c.self.view_is c.args.session c.in-Some.call.now is c.is_full.result c.is_full.ensures.value ∙ sym c.in_ok-outcome.ensures.refusal, refl)
 
 pub end_call-notes-requires-clause-not_full : goal.end_call-notes-requires-clause-not_full
 end_call-notes-requires-clause-not_full g c =
-    let done = ready c.in-Some.call.now.machine.progress c.is_full.result c.in_ok-outcome.ensures.refusal in
+    let done = ready c.in-Some.call.now.machine.progress c.is_full.result (sym c.in_ok-outcome.ensures.refusal) in
     λ e. true≢false (sym (c.is_full.ensures.value.1 (ap length (sym c.make_room.ensures.records) ∙ e)) ∙ done.1)
 
-pub returns-in-Some-taken-clause-answer : goal.returns-in-Some-taken-clause-answer
-returns-in-Some-taken-clause-answer g c =
-    let is : call_at c.self.inside c.args.session ≡ Some c.in-Some.call.now = held_at c.self.inside c.in-Some.call.now c.from-index.ensures c.as_slice.ensures.value c.in-Some.ensures in
-    λ u there. (
-      c.len-place.ensures ∙ ap length c.make_room.ensures.records ∙ ap (λ (v : CoreView). length v.log) c.self.view_is,
-      outcome_is c.self.inside c.self.invariant c.args.self.now c.self.view_is c.args.session c.in-Some.call.now c.in_ok-outcome.field-0.outcome is c.in_ok-outcome.ensures.outcome u there,
-      replies_are c.self.inside c.self.invariant c.args.self.now c.self.view_is c.args.session c.in-Some.call.now c.new.result is (c.new.ensures ∙ c.in_ok-outcome.ensures.replies) u there,
-    )
+pub returns-in-Some-taken-clause-place : goal.returns-in-Some-taken-clause-place
+returns-in-Some-taken-clause-place g c =
+    c.len-place.ensures ∙ ap length c.make_room.ensures.records ∙ ap (λ (v : CoreView). length v.log) c.self.view_is
 
 pub returns-in-Some-taken-clause-refusal : goal.returns-in-Some-taken-clause-refusal
 returns-in-Some-taken-clause-refusal g c =
-    let is : call_at c.self.inside c.args.session ≡ Some c.in-Some.call.now = held_at c.self.inside c.in-Some.call.now c.from-index.ensures c.as_slice.ensures.value c.in-Some.ensures in
-    let full = same_test c.is_full.result (length c.args.self.now.log) LOG_RECORDS (λ e. ap (λ (v : CoreView). length v.log) (sym c.self.view_is) ∙ c.is_full.ensures.value.0 e)
-    (λ e. c.is_full.ensures.value.1 (ap (λ (v : CoreView). length v.log) c.self.view_is ∙ e)) in
-    refusal_is c.self.inside c.self.invariant c.args.self.now c.self.view_is c.args.session c.in-Some.call.now c.is_full.result is full ∙ c.in_ok-outcome.ensures.refusal
+    let is = found_at c.self.inside (Some c.in-Some.call.now) c.from-index.ensures c.as_slice.ensures.value c.in-Some.ensures in
+    found_refusal c.self.inside c.self.invariant c.args.self.now c.self.view_is c.args.session c.in-Some.call.now is c.is_full.result c.is_full.ensures.value ∙ sym c.in_ok-outcome.ensures.refusal
