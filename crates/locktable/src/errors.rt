@@ -1,5 +1,9 @@
 //! Why a lock is refused.
 
+ghost use Rattle.std.specs.Prelude.{◌≡◌, Some};
+ghost use Rattle.locktable.specs.Modes.{refusal_text};
+ghost use Rattle.locktable.specs.declared.errors.LockError.TheVariants.{NoMemory};
+
 use procedure::NoMemory;
 use std::error::Error;
 use std::fmt;
@@ -14,9 +18,6 @@ pub enum LockError {
 }
 
 impl fmt::Display for LockError {
-    ghost use Rattle.std.specs.Prelude.{Some};
-    ghost use Rattle.locktable.specs.Modes.{refusal_text};
-
     ghost output = { λ refusal. Some (refusal_text refusal) };
 
     fn fmt<W: fmt::Write>(&self, f: &mut fmt::Formatter<W>) -> fmt::Result {
@@ -30,9 +31,6 @@ impl fmt::Display for LockError {
 impl Error for LockError {}
 
 impl From<NoMemory> for LockError {
-    ghost use Rattle.std.specs.Prelude.{◌≡◌};
-    ghost use Rattle.locktable.specs.declared.errors.LockError.TheVariants.{NoMemory};
-
     ghost from_gives = { λ _ refusal. refusal ≡ NoMemory };
 
     fn from(_refused: NoMemory) -> Self {

@@ -1,7 +1,7 @@
 //! The phases of a checkpoint.
 
-ghost use Rattle.std.specs.Prelude.{◌≡◌};
-ghost use Rattle.phase.specs.Phases.{successor};
+ghost use Rattle.std.specs.Prelude.{◌≡◌, Some};
+ghost use Rattle.phase.specs.Phases.{successor, phase_text};
 
 use std::fmt;
 
@@ -36,9 +36,6 @@ impl Phase {
 }
 
 impl fmt::Display for Phase {
-    ghost use Rattle.std.specs.Prelude.{Some};
-    ghost use Rattle.phase.specs.Phases.{phase_text};
-
     ghost output = { λ phase. Some (phase_text phase) };
 
     fn fmt<W: fmt::Write>(&self, f: &mut fmt::Formatter<W>) -> fmt::Result {

@@ -1,8 +1,8 @@
 //! The catalog: the procedures that can be called, each of them lawful.
 
-ghost use Rattle.std.specs.Prelude.{◌≡◌, ◌↔◌, [], None, IfOk, IfSome, IsTrue, length, slice_get, option_copied};
+ghost use Rattle.std.specs.Prelude.{◌≡◌, ◌↔◌, [], None, IfOk, IfSome, IsTrue, length, slice_get, option_copied, Some};
 ghost use Rattle.std.specs.Result.{result_err};
-ghost use Rattle.procedure.specs.Catalogs.{catalog_fault, first_fault, procedure_fault, instruction_fault, operand_fault, pair_fault, register_fault, test_fault, IsLawful};
+ghost use Rattle.procedure.specs.Catalogs.{catalog_fault, first_fault, procedure_fault, instruction_fault, operand_fault, pair_fault, register_fault, test_fault, IsLawful, fault_text};
 
 use crate::instructions::{Instr, Operand, Procedure, Test};
 use crate::limits::{ARGUMENTS, INSTRUCTIONS, LITERAL_BYTES, PROCEDURES, REGISTERS};
@@ -32,9 +32,6 @@ pub enum CatalogError {
 }
 
 impl fmt::Display for CatalogError {
-    ghost use Rattle.std.specs.Prelude.{Some};
-    ghost use Rattle.procedure.specs.Catalogs.{fault_text};
-
     ghost output = { λ fault. Some (fault_text fault) };
 
     fn fmt<W: fmt::Write>(&self, f: &mut fmt::Formatter<W>) -> fmt::Result {

@@ -7,9 +7,9 @@ ghost use Rattle.indexmap.specs.IndexMap.{spare, Updates as Notes};
 ghost use Rattle.record_store.specs.DeadKeys.{SameOffers};
 ghost use Rattle.record_store.specs.Entries.{lent_record};
 ghost use Rattle.record_store.specs.Fields.{mark_of};
-ghost use Rattle.record_store.specs.Stores.{Finds, IsLeastCandidate, HasKeysOnce, record_at_rest, changed, key_at, live_at, live_count, new_record, reclaimed, record_at, records, stable_at, with_available, with_aside, with_copy, with_live, with_record, with_stable};
+ghost use Rattle.record_store.specs.Stores.{Finds, IsLeastCandidate, HasKeysOnce, record_at_rest, changed, key_at, live_at, live_count, new_record, reclaimed, record_at, records, stable_at, with_available, with_aside, with_copy, with_live, with_record, with_stable, create_error_text};
 ghost use Rattle.record_store.specs.declared.records.Stable.TheVariants.{Empty, Was};
-ghost use Rattle.record_store.specs.declared.stores.CreateError.TheVariants.{TableFull};
+ghost use Rattle.record_store.specs.declared.stores.CreateError.TheVariants.{TableFull, NoMemory};
 
 #[cfg(test)]
 mod number_tests;
@@ -40,8 +40,6 @@ pub enum CreateError {
 }
 
 impl fmt::Display for CreateError {
-    ghost use Rattle.record_store.specs.Stores.{create_error_text};
-
     ghost output = { λ e. Some (create_error_text e) };
 
     fn fmt<W: fmt::Write>(&self, f: &mut fmt::Formatter<W>) -> fmt::Result {
@@ -55,8 +53,6 @@ impl fmt::Display for CreateError {
 impl Error for CreateError {}
 
 impl From<NoMemory> for CreateError {
-    ghost use Rattle.record_store.specs.declared.stores.CreateError.TheVariants.{NoMemory};
-
     ghost from_gives = { λ _ refusal. refusal ≡ NoMemory };
 
     fn from(_refused: NoMemory) -> Self {

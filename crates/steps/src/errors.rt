@@ -1,6 +1,10 @@
 //! Why a call is refused.
 
-ghost use Rattle.std.specs.Prelude.{Some};
+ghost use Rattle.std.specs.Prelude.{◌≡◌, Some, codes};
+ghost use Rattle.steps.specs.Refusals.{step_error_text, finish_error_text, open_error_text, begin_error_text, start_error_text, advance_error_text, capture_error_text, capture_to_error_text, abandon_error_text};
+ghost use Rattle.steps.specs.declared.errors.OpenError.TheVariants as opening;
+ghost use Rattle.steps.specs.declared.errors.BeginError.TheVariants as beginning;
+ghost use Rattle.steps.specs.Renewals.{renew_error_text};
 
 use procedure::NoMemory;
 use std::error::Error;
@@ -47,9 +51,6 @@ pub enum StepError {
 }
 
 impl StepError {
-    ghost use Rattle.std.specs.Prelude.{◌≡◌};
-    ghost use Rattle.steps.specs.Refusals.{step_error_text};
-
     /// The name of the refusal, as it is printed.
     pub fn name(self) -> &'static str
         ensures { result.now ≡ step_error_text self }
@@ -65,8 +66,6 @@ impl StepError {
 }
 
 impl fmt::Display for StepError {
-    ghost use Rattle.steps.specs.Refusals.{step_error_text};
-
     ghost output = { λ e. Some (step_error_text e) };
 
     fn fmt<W: fmt::Write>(&self, f: &mut fmt::Formatter<W>) -> fmt::Result {
@@ -89,9 +88,6 @@ pub enum FinishError {
 }
 
 impl FinishError {
-    ghost use Rattle.std.specs.Prelude.{◌≡◌};
-    ghost use Rattle.steps.specs.Refusals.{finish_error_text};
-
     /// The name of the refusal, as it is printed.
     pub fn name(self) -> &'static str
         ensures { result.now ≡ finish_error_text self }
@@ -106,8 +102,6 @@ impl FinishError {
 }
 
 impl fmt::Display for FinishError {
-    ghost use Rattle.steps.specs.Refusals.{finish_error_text};
-
     ghost output = { λ e. Some (finish_error_text e) };
 
     fn fmt<W: fmt::Write>(&self, f: &mut fmt::Formatter<W>) -> fmt::Result {
@@ -122,8 +116,6 @@ impl Error for FinishError {}
 pub struct NotActive;
 
 impl NotActive {
-    ghost use Rattle.std.specs.Prelude.{◌≡◌, codes};
-
     /// The name of the refusal, as it is printed.
     pub fn name(self) -> &'static str
         ensures { result.now ≡ codes "not active" }
@@ -133,8 +125,6 @@ impl NotActive {
 }
 
 impl fmt::Display for NotActive {
-    ghost use Rattle.std.specs.Prelude.{codes};
-
     ghost output = { λ _. Some (codes "not active") };
 
     fn fmt<W: fmt::Write>(&self, f: &mut fmt::Formatter<W>) -> fmt::Result {
@@ -145,9 +135,6 @@ impl fmt::Display for NotActive {
 impl Error for NotActive {}
 
 impl OpenError {
-    ghost use Rattle.std.specs.Prelude.{◌≡◌};
-    ghost use Rattle.steps.specs.Refusals.{open_error_text};
-
     /// The name of the refusal, as it is printed.
     pub fn name(self) -> &'static str
         ensures { result.now ≡ open_error_text self }
@@ -160,8 +147,6 @@ impl OpenError {
 }
 
 impl fmt::Display for OpenError {
-    ghost use Rattle.steps.specs.Refusals.{open_error_text};
-
     ghost output = { λ e. Some (open_error_text e) };
 
     fn fmt<W: fmt::Write>(&self, f: &mut fmt::Formatter<W>) -> fmt::Result {
@@ -172,10 +157,7 @@ impl fmt::Display for OpenError {
 impl Error for OpenError {}
 
 impl From<NoMemory> for OpenError {
-    ghost use Rattle.std.specs.Prelude.{◌≡◌};
-    ghost use Rattle.steps.specs.declared.errors.OpenError.TheVariants as refused;
-
-    ghost from_gives = { λ _ e. e ≡ refused.NoMemory };
+    ghost from_gives = { λ _ e. e ≡ opening.NoMemory };
 
     fn from(_refused: NoMemory) -> Self {
         OpenError::NoMemory
@@ -183,9 +165,6 @@ impl From<NoMemory> for OpenError {
 }
 
 impl BeginError {
-    ghost use Rattle.std.specs.Prelude.{◌≡◌};
-    ghost use Rattle.steps.specs.Refusals.{begin_error_text};
-
     /// The name of the refusal, as it is printed.
     pub fn name(self) -> &'static str
         ensures { result.now ≡ begin_error_text self }
@@ -203,8 +182,6 @@ impl BeginError {
 }
 
 impl fmt::Display for BeginError {
-    ghost use Rattle.steps.specs.Refusals.{begin_error_text};
-
     ghost output = { λ e. Some (begin_error_text e) };
 
     fn fmt<W: fmt::Write>(&self, f: &mut fmt::Formatter<W>) -> fmt::Result {
@@ -215,10 +192,7 @@ impl fmt::Display for BeginError {
 impl Error for BeginError {}
 
 impl From<NoMemory> for BeginError {
-    ghost use Rattle.std.specs.Prelude.{◌≡◌};
-    ghost use Rattle.steps.specs.declared.errors.BeginError.TheVariants as refused;
-
-    ghost from_gives = { λ _ e. e ≡ refused.NoMemory };
+    ghost from_gives = { λ _ e. e ≡ beginning.NoMemory };
 
     fn from(_refused: NoMemory) -> Self {
         BeginError::NoMemory
@@ -238,9 +212,6 @@ pub enum StartError {
 }
 
 impl StartError {
-    ghost use Rattle.std.specs.Prelude.{◌≡◌};
-    ghost use Rattle.steps.specs.Refusals.{start_error_text};
-
     /// The name of the refusal, as it is printed.
     pub fn name(self) -> &'static str
         ensures { result.now ≡ start_error_text self }
@@ -255,8 +226,6 @@ impl StartError {
 }
 
 impl fmt::Display for StartError {
-    ghost use Rattle.steps.specs.Refusals.{start_error_text};
-
     ghost output = { λ e. Some (start_error_text e) };
 
     fn fmt<W: fmt::Write>(&self, f: &mut fmt::Formatter<W>) -> fmt::Result {
@@ -281,9 +250,6 @@ pub enum AdvanceError {
 }
 
 impl AdvanceError {
-    ghost use Rattle.std.specs.Prelude.{◌≡◌};
-    ghost use Rattle.steps.specs.Refusals.{advance_error_text};
-
     /// The name of the refusal, as it is printed.
     pub fn name(self) -> &'static str
         ensures { result.now ≡ advance_error_text self }
@@ -299,8 +265,6 @@ impl AdvanceError {
 }
 
 impl fmt::Display for AdvanceError {
-    ghost use Rattle.steps.specs.Refusals.{advance_error_text};
-
     ghost output = { λ e. Some (advance_error_text e) };
 
     fn fmt<W: fmt::Write>(&self, f: &mut fmt::Formatter<W>) -> fmt::Result {
@@ -321,9 +285,6 @@ pub enum CaptureError {
 }
 
 impl CaptureError {
-    ghost use Rattle.std.specs.Prelude.{◌≡◌};
-    ghost use Rattle.steps.specs.Refusals.{capture_error_text};
-
     /// The name of the refusal, as it is printed.
     pub fn name(self) -> &'static str
         ensures { result.now ≡ capture_error_text self }
@@ -337,8 +298,6 @@ impl CaptureError {
 }
 
 impl fmt::Display for CaptureError {
-    ghost use Rattle.steps.specs.Refusals.{capture_error_text};
-
     ghost output = { λ e. Some (capture_error_text e) };
 
     fn fmt<W: fmt::Write>(&self, f: &mut fmt::Formatter<W>) -> fmt::Result {
@@ -363,9 +322,6 @@ pub enum CaptureToError {
 }
 
 impl CaptureToError {
-    ghost use Rattle.std.specs.Prelude.{◌≡◌};
-    ghost use Rattle.steps.specs.Refusals.{capture_to_error_text};
-
     /// The name of the refusal, as it is printed.
     pub fn name(self) -> &'static str
         ensures { result.now ≡ capture_to_error_text self }
@@ -380,8 +336,6 @@ impl CaptureToError {
 }
 
 impl fmt::Display for CaptureToError {
-    ghost use Rattle.steps.specs.Refusals.{capture_to_error_text};
-
     ghost output = { λ e. Some (capture_to_error_text e) };
 
     fn fmt<W: fmt::Write>(&self, f: &mut fmt::Formatter<W>) -> fmt::Result {
@@ -404,9 +358,6 @@ pub enum AbandonError {
 }
 
 impl AbandonError {
-    ghost use Rattle.std.specs.Prelude.{◌≡◌};
-    ghost use Rattle.steps.specs.Refusals.{abandon_error_text};
-
     /// The name of the refusal, as it is printed.
     pub fn name(self) -> &'static str
         ensures { result.now ≡ abandon_error_text self }
@@ -421,8 +372,6 @@ impl AbandonError {
 }
 
 impl fmt::Display for AbandonError {
-    ghost use Rattle.steps.specs.Refusals.{abandon_error_text};
-
     ghost output = { λ e. Some (abandon_error_text e) };
 
     fn fmt<W: fmt::Write>(&self, f: &mut fmt::Formatter<W>) -> fmt::Result {
@@ -445,9 +394,6 @@ pub enum RenewError {
 }
 
 impl RenewError {
-    ghost use Rattle.std.specs.Prelude.{◌≡◌};
-    ghost use Rattle.steps.specs.Renewals.{renew_error_text};
-
     /// The name of the refusal, as it is printed.
     pub fn name(self) -> &'static str
         ensures { result.now ≡ renew_error_text self }
@@ -462,8 +408,6 @@ impl RenewError {
 }
 
 impl fmt::Display for RenewError {
-    ghost use Rattle.steps.specs.Renewals.{renew_error_text};
-
     ghost output = { λ e. Some (renew_error_text e) };
 
     fn fmt<W: fmt::Write>(&self, f: &mut fmt::Formatter<W>) -> fmt::Result {
