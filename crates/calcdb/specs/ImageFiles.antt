@@ -12,8 +12,7 @@ use Rattle.calcdb.specs.declared.faults.Reason.{Reason}
 abbrev pub Spell : List Image → List Bytes → Type 0
 Spell [] [] = Unit {0}
 Spell (i ∷ is) (b ∷ bs) = IsImageSpelling i b × Spell is bs
-Spell [] (b ∷ bs) = ⊥
-Spell (i ∷ is) [] = ⊥
+Spell _ _ = ⊥
 
 -- the first of the files that spells no image is refused so
 abbrev pub RefusesFirst : ReadError → List Bytes → Type 0

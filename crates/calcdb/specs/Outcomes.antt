@@ -50,9 +50,7 @@ module _ (A : Type 0) where
   IsRunFault says opening (fault.Line n) = (is_opening opening ≡ true) × (says ≡ Err (Line n))
   IsRunFault says opening fault.Size = (is_opening opening ≡ true) × (says ≡ Err Size)
   IsRunFault says opening (fault.Refused r) = (is_opening opening ≡ false) × (r ≡ NotAnOpening)
-  IsRunFault says opening fault.Read = ⊥
-  IsRunFault says opening fault.Write = ⊥
-  IsRunFault says opening fault.NoMemory = ⊥
+  IsRunFault says opening _ = ⊥
 
   -- a text of which a run that was stopped may have written a beginning
   abbrev pub IsText : Result Schedule ScriptFault → Image → Bytes → Type 0
@@ -90,9 +88,7 @@ abbrev pub HasLine : Fault → Type 0
 HasLine (fault.Line n) = Unit {0}
 HasLine fault.Size = Unit {0}
 HasLine (fault.Refused r) = Unit {0}
-HasLine fault.Read = ⊥
-HasLine fault.Write = ⊥
-HasLine fault.NoMemory = ⊥
+HasLine _ = ⊥
 
 -- the line of a text that is no script was written, or a beginning of it; without memory nothing was
 abbrev pub RefusesScript : ScriptFault → Option Bytes → Option Bytes → Fault → Type 0

@@ -51,17 +51,10 @@ FailsText text = FailsAs (λ f. f ≡ no_memory) (λ t. t ≡ text)
 module _ (Refuses : Reason → Type 0) where
   abbrev pub IsRefusal : Fault → Type 0
   IsRefusal (fault.Refused r) = (r ≡ reason.NoMemory) ⊎ Refuses r
-  IsRefusal (fault.Line n) = ⊥
-  IsRefusal fault.Size = ⊥
-  IsRefusal fault.Read = ⊥
-  IsRefusal fault.Write = ⊥
-  IsRefusal fault.NoMemory = ⊥
+  IsRefusal _ = ⊥
 
 -- the faults that are answered where the input says this: its refusal; and whatever it says, that a write failed or memory was wanting
 abbrev pub Suits : {X : Type 0} → Fault → Result X Reason → Type 0
 Suits (fault.Refused r) says = (r ≡ reason.NoMemory) ⊎ (says ≡ Err r)
 Suits fault.Write says = Unit {0}
-Suits (fault.Line n) says = ⊥
-Suits fault.Size says = ⊥
-Suits fault.Read says = ⊥
-Suits fault.NoMemory says = ⊥
+Suits _ says = ⊥

@@ -2,7 +2,7 @@
 use Rattle.std.specs.Prelude.{◌≡◌, ◌⊎◌, true, false, ℕ, zero, suc, codes, List, [], ◌∷◌, ◌++◌, length, replicate, Option, Some, None, Result, Ok, Err, slice_get}
 use Rattle.procedure.specs.Bytes.{Bytes}
 use Rattle.procedure.specs.Procedures.{Procedure}
-use Rattle.commitlog.specs.Records.{Record, Call, Token}
+use Rattle.commitlog.specs.Records.{Record, Call}
 use Rattle.steps.specs.CoreViews.{CoreView}
 use Rattle.phase.specs.Phases.{phase_text}
 use Rattle.steps.specs.Refusals.{abandon_error_text, advance_error_text, begin_error_text, capture_error_text, finish_error_text, start_error_text, step_error_text}
@@ -54,9 +54,8 @@ EndsScan n (Err e) text = text ≡ refused_text (capture_error_text e)
 
 -- the answer that stands at a place of the log
 abbrev pub answer_in : ℕ → Option Record → Bytes
-answer_in place None = []
-answer_in place (Some (Token p n)) = []
 answer_in place (Some (Call s n p args outcome replies)) = answer_text place outcome replies
+answer_in place _ = []
 
 abbrev pub answered_text : List Record → ℕ → Bytes
 answered_text log place = answer_in place (slice_get log place)
@@ -104,23 +103,13 @@ module _ {A : Type 0} where
 
   -- the image that a command took, if it took one
   abbrev pub images_shown : Shown A → Images
-  images_shown (shown.Reply r) = []
-  images_shown (shown.Answered place) = []
   images_shown (shown.Image i) = i ∷ []
-  images_shown (shown.Scanned n) = []
+  images_shown _ = []
 
   -- the event by which a call begins
   abbrev pub Begins : NewCall (List Bytes) → Event A → Type 0
   Begins c (event.Begin s n p args) = (s ≡ c.session) × (n ≡ c.number) × (p ≡ c.procedure) × (args ≡ c.args)
-  Begins c (event.Step s) = ⊥
-  Begins c (event.Finish s) = ⊥
-  Begins c (event.GiveUp s) = ⊥
-  Begins c (event.Start k) = ⊥
-  Begins c event.Advance = ⊥
-  Begins c event.Capture = ⊥
-  Begins c event.TakeImage = ⊥
-  Begins c event.Reclaim = ⊥
-  Begins c event.Abandon = ⊥
+  Begins c _ = ⊥
 
   -- the end of a call: one event, and where its reply is a refusal one by which the call is given up
   abbrev pub Ends : ℕ → List (Event A) → List (Handled A) → Bytes → Type 0
@@ -199,7 +188,4 @@ abbrev pub Sent : Result (Unit {0}) Fault → Option Bytes → Option Bytes → 
 Sent (Ok x) old new text = Appends old new text
 Sent (Err fault.Write) old new text = IsBegun old new text
 Sent (Err fault.NoMemory) old new text = IsBegun old new text
-Sent (Err fault.Read) old new text = ⊥
-Sent (Err (fault.Line n)) old new text = ⊥
-Sent (Err fault.Size) old new text = ⊥
-Sent (Err (fault.Refused r)) old new text = ⊥
+Sent (Err _) old new text = ⊥

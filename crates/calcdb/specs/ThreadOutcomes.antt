@@ -30,9 +30,7 @@ IsFault says opening (fault.Line n) = (is_opening opening ≡ true) × (says ≡
 IsFault says opening fault.Size = (is_opening opening ≡ true) × (says ≡ Err Size)
 IsFault says opening (fault.Refused r) =
     ((is_opening opening ≡ false) × (r ≡ NotAnOpening)) ⊎ ((is_opening opening ≡ true) × (script : ThreadScript) × (says ≡ Ok script) × (r ≡ NoView))
-IsFault says opening fault.Read = ⊥
-IsFault says opening fault.Write = ⊥
-IsFault says opening fault.NoMemory = ⊥
+IsFault says opening _ = ⊥
 
 -- why a run isn't carried out, and what it wrote: nothing, or the line of the fault or a beginning of it
 abbrev pub NotCarriedOut : Result ThreadScript ScriptFault → Image → (old new : Option Bytes) → Fault → Type 0
