@@ -1,5 +1,5 @@
 -- Bytes that are written one after another, and a call that fails between.
-use Rattle.std.proofs.Common.{◌≡◌, ◌<◌, ◌≤◌, ℕ, ◌+◌, ◌-◌, ◌^◌, [], ◌∷◌, ◌++◌, length, take, drop, Ok, Err, OnOk, OnErr, IfOk, ap, ◌∙◌, append_assoc, arith}
+use Rattle.std.proofs.Common.{◌≡◌, ◌<◌, ◌≤◌, ℕ, ◌+◌, ◌-◌, ◌^◌, [], ◌∷◌, ◌++◌, length, take, drop, Ok, Err, OnOk, OnErr, ap, ◌∙◌, append_assoc, arith}
 use Rattle.std.specs.Result.{IsErrAnd}
 use Rattle.std.specs.declared.result.Result.{Result}
 use Rattle.std.proofs.Math.Seq.{drop-append_seam}
@@ -31,9 +31,20 @@ module _ (out mid first : Bytes) (start : ℕ) (wrote : mid ≡ out ++ first) (i
       ∙ (λ i. drop (is i) ((lent ∙ wrote) i))
       ∙ drop-append_seam out first
 
+  -- a digest of the slice is one of these bytes
+  pub digest_is : (f : Bytes → Bytes) (digest here : Bytes) → here ≡ mid → digest ≡ f (take (length here - start) (drop start here)) → digest ≡ f first
+  digest_is f digest here lent made = made ∙ ap f (part_is here lent)
+
+  pub digest_then : (f : Bytes → Bytes) (digest here new : Bytes) → here ≡ mid → digest ≡ f (take (length here - start) (drop start here)) → new ≡ mid ++ digest → new ≡ out ++ (first ++ f first)
+  digest_then f digest here new lent made more = written_then out mid new first digest wrote more ∙ ap (λ (d : Bytes). out ++ (first ++ d)) (digest_is f digest here lent made)
+
   -- no room for n bytes behind them
   pub no_room : (size n k cap more : ℕ) → n ≡ k → size ≡ length mid → cap ≤ more → more < size + n → cap < start + length first + k
   no_room size n k cap more same sized grown full = omega (arith, length_written out mid first wrote)
+
+-- what an empty buffer lends once the text is in it
+pub lent : (text empty full slice : Bytes) → empty ≡ [] → full ≡ empty ++ text → slice ≡ full → slice ≡ text
+lent text empty full slice none wrote is = is ∙ wrote ∙ ap (λ (x : Bytes). x ++ text) none
 
 pub less_than_more : (a b n : ℕ) → a < b → a < b + n
 less_than_more a b n lt = omega arith
@@ -42,10 +53,6 @@ less_than_more a b n lt = omega arith
 pub never_ok : {T E : Type 0} (P : Type 0) (Q : E → Type 0) (r : Result T E) → IsErrAnd r Q → OnOk r P
 never_ok P Q (Ok x) h = absurd h
 never_ok P Q (Err e) h = tt
-
-pub never_if_ok : {T E : Type 0} (P : T → Type 0) (Q : E → Type 0) (r : Result T E) → IsErrAnd r Q → IfOk r P
-never_if_ok P Q (Ok x) h = absurd h
-never_if_ok P Q (Err e) h = tt
 
 pub at_ok : {T E : Type 0} {P : Type 0} (r : Result T E) → P → OnOk r P
 at_ok (Ok x) p = p

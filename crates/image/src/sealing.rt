@@ -25,6 +25,7 @@ pub const MAGIC_V1: [u8; 8] = *b"CALCIMG1";
 /// With what the bytes of version 2 begin.
 pub const MAGIC_V2: [u8; 8] = *b"CALCIMG2";
 
+#[tactic(auto, using(crate::proofs::Written::never_ok))]
 fn write_entry<A: Allocator, B: Allocator>(
     out: &mut Vec<u8, B>,
     entry: &Entry<A>,
@@ -73,6 +74,7 @@ fn kind_byte(kind: Kind) -> u8
     }
 }
 
+#[tactic(auto, using(crate::proofs::Written::never_ok))]
 fn write_header<A: Allocator, B: Allocator>(
     out: &mut Vec<u8, B>,
     magic: &[u8; 8],

@@ -165,6 +165,7 @@ fn write_out_blocks<W: Write, A: Allocator, B: Allocator>(
 /// Writes an image in version 2, a block at a time, as `seal` makes its bytes. After an error, what went
 /// out is a beginning of them; memory for the longest block is taken first, so that after `NoMemory`
 /// nothing went out.
+#[tactic(auto, using(crate::proofs::Written::never_ok))]
 pub fn seal_to<W: Write, A: Allocator>(
     alloc: A,
     writer: &mut W,

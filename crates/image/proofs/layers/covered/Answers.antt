@@ -2,7 +2,7 @@ use Rattle.std.proofs.Common.{sym, ◌∙◌}
 use Rattle.std.proofs.lemmas.Bool.{eqb-true}
 use Rattle.std.proofs.lemmas.List.{nil_from_length}
 use Rattle.image.proofs.Layering.{says_alone, says_same}
-use Rattle.image.proofs.Results.{if_ok}
+use Rattle.procedure.proofs.Results.{if_ok}
 use Rattle.image.proofs.layers.covered.Goals as goal
 
 pub returns-then-is_empty : goal.returns-then-is_empty

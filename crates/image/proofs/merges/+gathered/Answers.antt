@@ -2,7 +2,7 @@ use Rattle.std.proofs.Common.{List, Bor, sym, subst, ◌∙◌}
 use Rattle.image.specs.Images.{Entry}
 use Rattle.image.specs.Joins.{lent, Say, said_by}
 use Rattle.image.proofs.Chains.{says_one, says_two}
-use Rattle.image.proofs.Results.{if_ok}
+use Rattle.procedure.proofs.Results.{if_ok}
 use Rattle.image.proofs.merges.+gathered.Goals as goal
 
 pub returns-then-is_empty : goal.returns-then-is_empty

@@ -4,7 +4,7 @@ use Rattle.sha2.proofs.Facts256.{length-sha256}
 use Rattle.sha2.specs.Sha256.{sha256}
 use Rattle.procedure.specs.Bytes.{Bytes}
 use Rattle.image.specs.ImageBytes.{entries_bytes}
-use Rattle.image.proofs.Written.{at_err, less_than_more, no_less, no_room, part_is, part_within, written_then}
+use Rattle.image.proofs.Written.{at_err, digest_is, digest_then, less_than_more, no_room, part_within}
 use Rattle.image.proofs.sealing.write_block.Goals as goal
 
 pub returns-in_err-write_entries-clause-full : goal.returns-in_err-write_entries-clause-full
@@ -13,9 +13,7 @@ returns-in_err-write_entries-clause-full g c =
     (less_than_more (vec_capacity c.args.out.now) (vec_len c.args.out.now + length (entries_bytes c.args.entries.now)) 32 c.in_err-write_entries.ensures.full)
 
 pub slice_bounds-chained_digest-count : goal.slice_bounds-chained_digest-count
-slice_bounds-chained_digest-count g c =
-    part_within c.args.out.now.items c.write_entries.new.out.items (entries_bytes c.args.entries.now) c.len-start.result c.in_ok-write_entries.ensures.bytes
-    (c.len-start.ensures ∙ c.args.out.now.ok.0) c.deref.result.now c.deref.ensures.value
+slice_bounds-chained_digest-count g c = part_within _ _ _ _ c.in_ok-write_entries.ensures.bytes (c.len-start.ensures ∙ c.args.out.now.ok.0) _ c.deref.ensures.value
 
 pub returns-in_err-extend_from_slice-clause-full : goal.returns-in_err-extend_from_slice-clause-full
 returns-in_err-extend_from_slice-clause-full g c =
@@ -28,23 +26,10 @@ returns-in_err-extend_from_slice-clause-full g c =
 
 pub returns-clause-digest : goal.returns-clause-digest
 returns-clause-digest g c =
+    digest_is _ _ _ _ c.in_ok-write_entries.ensures.bytes (c.len-start.ensures ∙ c.args.out.now.ok.0) (λ (x : Bytes). sha256 (c.args.before.now ++ x)) _ _ c.deref.ensures.value
     c.chained_digest-digest.ensures
-    ∙ ap (λ (x : Bytes). sha256 (c.args.before.now ++ x))
-    (part_is c.args.out.now.items c.write_entries.new.out.items (entries_bytes c.args.entries.now) c.len-start.result c.in_ok-write_entries.ensures.bytes
-    (c.len-start.ensures ∙ c.args.out.now.ok.0) c.deref.result.now c.deref.ensures.value)
 
 pub returns-clause-bytes : goal.returns-clause-bytes
 returns-clause-bytes g c =
-    let out = c.args.out.now.items in
-    let entries = entries_bytes c.args.entries.now in
-    let digest =
-    c.chained_digest-digest.ensures
-    ∙ ap (λ (x : Bytes). sha256 (c.args.before.now ++ x))
-    (part_is out c.write_entries.new.out.items entries c.len-start.result c.in_ok-write_entries.ensures.bytes (c.len-start.ensures ∙ c.args.out.now.ok.0) c.deref.result.now c.deref.ensures.value) in
-    written_then out c.write_entries.new.out.items c.extend_from_slice.new.self.items entries c.chained_digest-digest.result c.in_ok-write_entries.ensures.bytes c.in_ok-extend_from_slice.ensures.items
-    ∙ ap (λ (d : Bytes). out ++ (entries ++ d)) digest
-
-pub returns-clause-capacity : goal.returns-clause-capacity
-returns-clause-capacity g c =
-    no_less (vec_capacity c.args.out.now) (vec_capacity c.write_entries.new.out) (vec_capacity c.extend_from_slice.new.self) c.in_ok-write_entries.ensures.capacity
-    c.in_ok-extend_from_slice.ensures.capacity
+    digest_then _ _ _ _ c.in_ok-write_entries.ensures.bytes (c.len-start.ensures ∙ c.args.out.now.ok.0) (λ (x : Bytes). sha256 (c.args.before.now ++ x)) _ _ _ c.deref.ensures.value
+    c.chained_digest-digest.ensures c.in_ok-extend_from_slice.ensures.items

@@ -6,7 +6,7 @@ use Rattle.procedure.specs.declared.limits.TheConstants.{VALUE_BYTES}
 use Rattle.image.specs.Images.{Entry}
 use Rattle.image.specs.ImageBytes.{IsWithin, entries_bytes, image_header_bytes}
 use Rattle.image.specs.declared.sealing.TheConstants.{MAGIC_V1}
-use Rattle.image.proofs.Written.{part_is, part_within, written_then}
+use Rattle.image.proofs.Written.{digest_then, part_within, written_then}
 use Rattle.image.proofs.sealing.write_v1.Goals as goal
 
 entries_written : (out mid new header : Bytes) (es given : List Entry) → mid ≡ out ++ header → new ≡ mid ++ entries_bytes es → es ≡ given → new ≡ out ++ (header ++ entries_bytes given)
@@ -14,25 +14,13 @@ entries_written out mid new header es given one two same = written_then out mid 
 
 pub slice_bounds-digest-count : goal.slice_bounds-digest-count
 slice_bounds-digest-count g c =
-    let out = c.args.out.now.items in
-    let header = image_header_bytes MAGIC_V1 c.args.image.now in
-    let entries = entries_bytes c.args.image.now.entries in
-    let wrote = entries_written out c.write_header.new.out.items c.write_entries.new.out.items header c.entries.result.now c.args.image.now.entries c.in_ok-write_header.ensures.bytes
-    c.in_ok-write_entries.ensures.bytes c.entries.ensures.value in
-    part_within out c.write_entries.new.out.items (header ++ entries) c.len-start.result wrote (c.len-start.ensures ∙ c.args.out.now.ok.0) c.deref.result.now c.deref.ensures.value
+    let wrote = entries_written c.args.out.now.items _ _ (image_header_bytes MAGIC_V1 c.args.image.now) _ _ c.in_ok-write_header.ensures.bytes c.in_ok-write_entries.ensures.bytes c.entries.ensures.value in
+    part_within _ _ _ _ wrote (c.len-start.ensures ∙ c.args.out.now.ok.0) _ c.deref.ensures.value
 
 pub returns-clause-bytes : goal.returns-clause-bytes
 returns-clause-bytes g c =
-    let out = c.args.out.now.items in
-    let header = image_header_bytes MAGIC_V1 c.args.image.now in
-    let entries = entries_bytes c.args.image.now.entries in
-    let wrote = entries_written out c.write_header.new.out.items c.write_entries.new.out.items header c.entries.result.now c.args.image.now.entries c.in_ok-write_header.ensures.bytes
-    c.in_ok-write_entries.ensures.bytes c.entries.ensures.value in
-    let digest =
-    c.digest-digest.ensures
-    ∙ ap sha256 (part_is out c.write_entries.new.out.items (header ++ entries) c.len-start.result wrote (c.len-start.ensures ∙ c.args.out.now.ok.0) c.deref.result.now c.deref.ensures.value) in
-    written_then out c.write_entries.new.out.items c.extend_from_slice.new.self.items (header ++ entries) c.digest-digest.result wrote c.in_ok-extend_from_slice.ensures.items
-    ∙ ap (λ (d : Bytes). out ++ ((header ++ entries) ++ d)) digest
+    let wrote = entries_written c.args.out.now.items _ _ (image_header_bytes MAGIC_V1 c.args.image.now) _ _ c.in_ok-write_header.ensures.bytes c.in_ok-write_entries.ensures.bytes c.entries.ensures.value in
+    digest_then _ _ _ _ wrote (c.len-start.ensures ∙ c.args.out.now.ok.0) sha256 _ _ _ c.deref.ensures.value c.digest-digest.ensures c.in_ok-extend_from_slice.ensures.items
 
 pub returns-clause-numbers : goal.returns-clause-numbers
 returns-clause-numbers g c = c.in_ok-write_header.ensures.fits
