@@ -16,12 +16,15 @@ use Rattle.commitlog.specs.StoredLogs.{AnswersBy, IsAnswer, TellsBy, reading_of}
 use Rattle.commitlog.specs.declared.decoding.StoredLog.{StoredLog}
 use Rattle.commitlog.proofs.OneReadings.{one_reading}
 
--- the first bytes are the header's
-pub header_is : (v : Version) (h : LogHeader) (bytes : Bytes) → take 8 bytes ≡ magic v → h.catalog ++ h.opening ≡ drop 8 (take 72 bytes) → log_header_bytes v h ≡ take 72 bytes
-header_is v h bytes letters digests =
+-- the letters and the digests that were cut off are the header's
+pub header_is : (v : Version) (h : LogHeader) (bytes cut digests : Bytes) → take 8 bytes ≡ magic v → cut ≡ take 72 bytes → digests ≡ drop 8 cut → h.catalog ++ h.opening ≡ digests →
+    log_header_bytes v h ≡ take 72 bytes
+header_is v h bytes cut digests letters is_cut are_digests are =
     let front = take 72 bytes in
     let same : take 8 front ≡ magic v = take-take 8 72 bytes (omega arith) ∙ letters in
-    ap (λ (x : Bytes). x ++ (h.catalog ++ h.opening)) (sym same) ∙ ap (λ (x : Bytes). take 8 front ++ x) digests ∙ take-append-drop 8 front
+    ap (λ (x : Bytes). x ++ (h.catalog ++ h.opening)) (sym same)
+    ∙ ap (λ (x : Bytes). take 8 front ++ x) (are ∙ are_digests ∙ ap (drop 8) is_cut)
+    ∙ take-append-drop 8 front
 
 pub begins : (v : Version) (h : LogHeader) (d : Bytes) (rs : List Record) (rest bytes : Bytes) → IsHeader h → log_header_bytes v h ≡ take 72 bytes → d ≡ sha256 (take 72 bytes) →
     Fronts v d rs rest (drop 72 bytes) → Begins v h rs rest bytes

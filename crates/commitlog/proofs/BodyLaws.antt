@@ -187,27 +187,24 @@ one_body v r s fits fits' e = some_is r s (sym (record_again v r fits) ∙ ap (r
 
 -- ---- lengths
 
+-- what is spelled one after another, where each is of so many bytes at most
+all_bound : {X : Type 0} (f : X → Bytes) (P : X → Type 0) (most : ℕ) → ((x : X) → P x → length (f x) ≤ most) → (xs : List X) → AllByRecursion P xs → length (flat_map f xs) ≤ length xs * most
+all_bound f P most small [] fits = omega arith
+all_bound f P most small (x ∷ xs) fits =
+    let h = all_bound f P most small xs fits.1 in
+    let here = small x fits.0 in
+    let e : length (flat_map f (x ∷ xs)) ≡ length (f x) + length (flat_map f xs) = ap length (flat_map-cons f x xs) ∙ length-append (f x) (flat_map f xs) in
+    rw e (grind (arith, h, here))
+
 values_bound : (v : Version) (xs : List Bytes) → AllByRecursion (IsValue v) xs → length (flat_map value_bytes xs) ≤ length xs * (greatest_value v + 2)
-values_bound v [] fits = omega arith
-values_bound v (x ∷ xs) fits =
-    let h = values_bound v xs fits.1 in
-    let e : length (flat_map value_bytes (x ∷ xs)) ≡ length (value_bytes x) + length (flat_map value_bytes xs) = ap length (flat_map-cons value_bytes x xs) ∙
-    length-append (value_bytes x) (flat_map value_bytes xs) in
-    let small : length x ≤ greatest_value v = fits.0 in
-    rw e (grind (arith, h, small))
+values_bound v xs fits = all_bound value_bytes (IsValue v) (greatest_value v + 2) (λ x small. omega (arith, small)) xs fits
 
 reply_bound : (v : Version) (o : Cell) → IsReply v o → length (reply_bytes o) ≤ greatest_value v + 3
 reply_bound v None h = omega arith
 reply_bound v (Some b) h = omega (arith, h)
 
 replies_bound : (v : Version) (xs : List Cell) → AllByRecursion (IsReply v) xs → length (flat_map reply_bytes xs) ≤ length xs * (greatest_value v + 3)
-replies_bound v [] fits = omega arith
-replies_bound v (x ∷ xs) fits =
-    let h = replies_bound v xs fits.1 in
-    let e : length (flat_map reply_bytes (x ∷ xs)) ≡ length (reply_bytes x) + length (flat_map reply_bytes xs) = ap length (flat_map-cons reply_bytes x xs) ∙
-    length-append (reply_bytes x) (flat_map reply_bytes xs) in
-    let small = reply_bound v x fits.0 in
-    rw e (grind (arith, h, small))
+replies_bound v xs fits = all_bound reply_bytes (IsReply v) (greatest_value v + 3) (reply_bound v) xs fits
 
 call_bound : (v : Version) (args : List Bytes) (r : List Cell) → length args ≤ 8 → length r ≤ 64 → AllByRecursion (IsValue v) args → AllByRecursion (IsReply v) r →
     16 + length (flat_map value_bytes args) + length (flat_map reply_bytes r) ≤ greatest_body v

@@ -61,21 +61,17 @@ finished_and_running l = by_end Running running_none running_more l
 abbrev LastStands : List Record → Type 0
 LastStands l = (last_finished l ≡ 0) ⊎ IsFinished l (last_finished l)
 
+stands_on : (l : List Record) (r : Record) → LastStands l → (last_finished l ≡ 0) ⊎ IsFinished (l ++ r ∷ []) (last_finished l)
+stands_on l r (inl e) = inl e
+stands_on l r (inr s) = inr (stands-left (Token Complete (last_finished l)) l (r ∷ []) s)
+
 last_more : (l : List Record) (r : Record) → LastStands l → (finished_after (last_finished l) r ≡ 0) ⊎ IsFinished (l ++ r ∷ []) (finished_after (last_finished l) r)
 last_more l (Token Complete n) h = inr (stands-right (Token Complete n) l (Token Complete n ∷ []) (inl refl))
-last_more l (Token Rest n) h = or_left l (Token Rest n) h
-  where
-    or_left : (l : List Record) (r : Record) → LastStands l → (last_finished l ≡ 0) ⊎ IsFinished (l ++ r ∷ []) (last_finished l)
-    or_left l r (inl e) = inl e
-    or_left l r (inr s) = inr (stands-left (Token Complete (last_finished l)) l (r ∷ []) s)
-last_more l (Token Prepare n) (inl e) = inl e
-last_more l (Token Prepare n) (inr s) = inr (stands-left (Token Complete (last_finished l)) l _ s)
-last_more l (Token Resolve n) (inl e) = inl e
-last_more l (Token Resolve n) (inr s) = inr (stands-left (Token Complete (last_finished l)) l _ s)
-last_more l (Token Capture n) (inl e) = inl e
-last_more l (Token Capture n) (inr s) = inr (stands-left (Token Complete (last_finished l)) l _ s)
-last_more l (Call s n p args o r) (inl e) = inl e
-last_more l (Call s n p args o r) (inr x) = inr (stands-left (Token Complete (last_finished l)) l _ x)
+last_more l (Token Rest n) h = stands_on l (Token Rest n) h
+last_more l (Token Prepare n) h = stands_on l (Token Prepare n) h
+last_more l (Token Resolve n) h = stands_on l (Token Resolve n) h
+last_more l (Token Capture n) h = stands_on l (Token Capture n) h
+last_more l (Call s n p args o r) h = stands_on l (Call s n p args o r) h
 
 last_none : LastStands []
 unfolding last_finished

@@ -1,5 +1,5 @@
 -- A whole record at the front of bytes.
-use Rattle.std.proofs.Common.{◌≡◌, ◌≢◌, ℕ, ◌+◌, ◌≤◌, ◌++◌, inl, inr, length, drop, sym, ap, ◌∙◌, append_assoc, arith}
+use Rattle.std.proofs.Common.{◌≡◌, ◌≢◌, ℕ, ◌+◌, ◌≤◌, ◌++◌, inl, inr, length, take, drop, sym, ap, ◌∙◌, append_assoc, arith}
 use Rattle.std.proofs.lemmas.List.{take-append-drop, drop-drop, length-take, length-drop}
 use Rattle.byteorder.specs.Endian.{big_bytes}
 use Rattle.sha2.specs.Sha256.{sha256}
@@ -43,15 +43,25 @@ whole_is d r bytes fits whole text digest =
     ∙ ap (λ (x : Bytes). big_bytes 4 (length (body r)) ++ (body r ++ (x ++ rest))) (sym digest)
     ∙ ap (λ (x : Bytes). big_bytes 4 (length (body r)) ++ x) (sym (append_assoc (body r) (next_digest d r) rest))
 
--- the body and the digest of a whole record, which text and given are
-module _ (v : Version) (d bytes text given after : Bytes) (text_is : text ≡ stated_body bytes) (given_is : given ≡ stated_digest bytes) (digest : after ≡ sha256 (d ++ text)) where
+-- the text and the digest of a whole record
+pub record AreCut (bytes text given : Bytes) : Type 0 where
+  pub text_is : text ≡ stated_body bytes
+  pub given_is : given ≡ stated_digest bytes
+
+pub are_cut : (n : ℕ) (bytes rest text behind given : Bytes) → n ≡ stated_length bytes → rest ≡ drop 4 bytes → text ≡ take n rest → behind ≡ drop n rest → given ≡ take 32 behind → AreCut bytes text given
+are_cut n bytes rest text behind given is_length is_rest is_text is_behind is_given = record {
+  text_is = is_text ∙ (λ i. take (is_length i) (is_rest i));
+  given_is = is_given ∙ ap (take 32) (is_behind ∙ (λ i. drop (is_length i) (is_rest i)));
+}
+
+module _ (v : Version) (d bytes text given after : Bytes) (are : AreCut bytes text given) (digest : after ≡ sha256 (d ++ text)) where
   pub stands : IsBytes bytes → IsWhole bytes → after ≡ given → IsBody v text → StandsFirst v d after bytes (after_record bytes)
   stands fits whole same b =
       let chained : after ≡ next_digest d b.0 = digest ∙ ap (λ (t : Bytes). sha256 (d ++ t)) (sym b.2) in
-      (b.0, b.1, chained, whole_is d b.0 bytes fits whole (b.2 ∙ text_is) (sym chained ∙ same ∙ given_is))
+      (b.0, b.1, chained, whole_is d b.0 bytes fits whole (b.2 ∙ are.text_is) (sym chained ∙ same ∙ are.given_is))
 
   pub no_body : (IsBody v text → ⊥) → IsForeign v d bytes
-  no_body none = inl (λ r fits same. none (r, fits, same ∙ sym text_is))
+  no_body none = inl (λ r fits same. none (r, fits, same ∙ sym are.text_is))
 
   pub other_digest : after ≢ given → IsForeign v d bytes
-  other_digest other = inr (λ same. other (digest ∙ ap (λ (t : Bytes). sha256 (d ++ t)) text_is ∙ sym same ∙ sym given_is))
+  other_digest other = inr (λ same. other (digest ∙ ap (λ (t : Bytes). sha256 (d ++ t)) are.text_is ∙ sym same ∙ sym are.given_is))

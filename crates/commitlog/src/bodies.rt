@@ -114,6 +114,7 @@ fn reply_of<'a, A: Allocator + Clone>(
     }
 }
 
+#[tactic(auto, using(crate::proofs::Manys::ends))]
 fn values_of<'a, A: Allocator + Clone>(
     alloc: &A,
     version: Version,
@@ -132,6 +133,7 @@ fn values_of<'a, A: Allocator + Clone>(
     Ok((values, rest))
 }
 
+#[tactic(auto, using(crate::proofs::Manys::ends))]
 fn cells_of<'a, A: Allocator + Clone>(
     alloc: &A,
     version: Version,

@@ -45,6 +45,7 @@ fn write_reply<P: Pieces, A: Allocator>(out: &mut P, reply: &Option<Value<A>>)
     }
 }
 
+#[tactic(auto, using(crate::proofs::Takings::all_taken, crate::proofs::Takings::next_taken))]
 fn write_values<P: Pieces, A: Allocator>(out: &mut P, values: &[Value<A>])
     ensures { P.Takes out.old out.new (flat_map value_bytes values.now) }
 {
@@ -53,6 +54,7 @@ fn write_values<P: Pieces, A: Allocator>(out: &mut P, values: &[Value<A>])
     }
 }
 
+#[tactic(auto, using(crate::proofs::Takings::all_taken, crate::proofs::Takings::next_taken))]
 fn write_replies<P: Pieces, A: Allocator>(out: &mut P, replies: &[Option<Value<A>>])
     ensures { P.Takes out.old out.new (flat_map reply_bytes replies.now) }
 {

@@ -36,6 +36,7 @@ fn after_reply(version: Version, bytes: &[u8]) -> Result<&[u8], BodyError>
 }
 
 /// What stands after so many values.
+#[tactic(auto, using(crate::proofs::Passing::none_passed, crate::proofs::Passing::passes_on))]
 fn after_values(version: Version, count: u8, bytes: &[u8]) -> Result<&[u8], BodyError>
     ensures { PassesMany (λ x. x.now) result (value_in (greatest_value version)) count bytes.now }
 {
@@ -47,6 +48,7 @@ fn after_values(version: Version, count: u8, bytes: &[u8]) -> Result<&[u8], Body
 }
 
 /// What stands after so many replies.
+#[tactic(auto, using(crate::proofs::Passing::none_passed, crate::proofs::Passing::passes_on))]
 fn after_replies(version: Version, count: u8, bytes: &[u8]) -> Result<&[u8], BodyError>
     ensures { PassesMany (λ x. x.now) result (reply_in (greatest_value version)) count bytes.now }
 {

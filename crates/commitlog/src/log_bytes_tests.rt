@@ -63,6 +63,11 @@ pub(crate) fn outcome_of(read: Result<StoredLog<Global>, LogError>) -> Seen {
     }
 }
 
+/// How many bytes there are, and what is read of them.
+fn size_and_reading(alloc: Global, bytes: &[u8]) -> (usize, Seen) {
+    (bytes.len(), outcome_of(read_log(alloc, bytes)))
+}
+
 fn value(alloc: Global, len: usize) -> Result<Value<Global>, Fail> {
     let mut bytes = Vec::new(alloc);
     for _ in 0..len {
@@ -334,15 +339,14 @@ fn token(rt: HostRuntime) -> Result<(), Fail> {
     let mut records = Vec::new(alloc);
     records.push(Record::token(Phase::Complete, u64::MAX))?;
     let made = written(alloc, &records)?;
-    assert_eq!(rt; made.len(), 72 + 46);
+    assert_eq!(rt;
+        size_and_reading(alloc, made.as_slice()),
+        (72 + 46, Seen::Clean(1))
+    );
     let body = made.as_slice().get(72..86).ok_or("short")?;
     assert_eq!(rt;
         body,
         b"\0\0\0\x0a\0\x04\xff\xff\xff\xff\xff\xff\xff\xff".as_slice()
-    );
-    assert_eq!(rt;
-        outcome_of(read_log(alloc, made.as_slice())),
-        Seen::Clean(1)
     );
     Ok(())
 }
@@ -361,11 +365,8 @@ fn sizes(rt: HostRuntime) -> Result<(), Fail> {
     for (args, reply, length) in BODIES {
         let records = one_call(alloc, args, reply)?;
         let made = written(alloc, &records)?;
-        assert_eq!(rt; made.len(), 72 + 4 + length + 32);
-        assert_eq!(rt;
-            outcome_of(read_log(alloc, made.as_slice())),
-            Seen::Clean(1)
-        );
+        let wanted = (72 + 4 + length + 32, Seen::Clean(1));
+        assert_eq!(rt; size_and_reading(alloc, made.as_slice()), wanted);
     }
     Ok(())
 }
@@ -376,11 +377,8 @@ fn sizes_in_version_1(rt: HostRuntime) -> Result<(), Fail> {
     for (args, reply, length) in [BODIES[0], BODIES[1], BODIES[2]] {
         let records = one_call(alloc, args, reply)?;
         let made = written_v1(alloc, &records)??;
-        assert_eq!(rt; made.len(), 72 + 4 + length + 32);
-        assert_eq!(rt;
-            outcome_of(read_log(alloc, made.as_slice())),
-            Seen::Clean(1)
-        );
+        let wanted = (72 + 4 + length + 32, Seen::Clean(1));
+        assert_eq!(rt; size_and_reading(alloc, made.as_slice()), wanted);
     }
     Ok(())
 }
