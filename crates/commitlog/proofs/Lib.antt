@@ -5,6 +5,7 @@ pub mod Cuts
 pub mod Written
 pub mod Finished
 pub mod Growth
+pub mod CutTables
 pub mod Takings
 pub mod Sending
 pub mod Manys

@@ -1,6 +1,7 @@
 -- Records that are audited, one after another.
 use Rattle.std.proofs.Common.{◌≡◌, ◌⊎◌, inl, inr, ℕ, ◌+◌, ◌≤◌, Bool, true, true≢false, List, [], ◌∷◌, ◌++◌, length, Ok, Err, append_assoc, refl, sym, ap, ◌∙◌, subst, arith}
 use Rattle.std.specs.declared.result.Result.{Result}
+use Rattle.std.proofs.Math.Logic.{⊎_map}
 use Rattle.std.proofs.lemmas.List.{append-nil, length-append}
 use Rattle.procedure.specs.Bytes.{Bytes}
 use Rattle.procedure.specs.Table.{Table}
@@ -48,6 +49,10 @@ module _ (c : List Procedure) (t : Table) (all : List Record) where
   unfolding after
   none_yet o is = record { done = []; parts = refl; place = refl; passed = λ i r e. absurd (cc); order = is; table = refl; calls = refl }
 
+  -- the next of them is this record
+  pub next_is : (l left : List Record) (next r : Record) (u : Table) (o : Order) (n p : ℕ) → l ≡ next ∷ left → r ≡ next → PassSoFar c t all l u o n p → PassSoFar c t all (r ∷ left) u o n p
+  next_is l left next r u o n p is same s = subst (λ x. PassSoFar c t all x u o n p) (is ∙ ap (λ y. y ∷ left) (sym same)) s
+
   module _ (r : Record) (left : List Record) (u : Table) (o : Order) (n p : ℕ) (s : PassSoFar c t all (r ∷ left) u o n p) where
     first : {F : List Record → Record → Type 0} → F s.done r → IsFirst (Passes c t) F all p
     first {F} fault =
@@ -59,19 +64,22 @@ module _ (c : List Procedure) (t : Table) (all : List Record) where
     disorder torn out = first out
 
     module _ (in_order : IsInOrder s.done r) where
-      -- so does one that doesn't run again
-      pub fails : (torn : Bool) (e : CallError) → EntryAgain c u r (Err e) → AreAudited c t all torn (Err (audited_at e p))
-      fails torn stopped.Diverged h = first (in_order, λ a. h (subst (λ (x : Table). IsAnsweredOn c x r) (sym s.table) (answered_on c t s.done r a)))
-      fails torn stopped.TooMany h = (
+      fails_at : (torn : Bool) (e : CallError) → EntryAgain c u r (Err e) → AreAudited c t all torn (Err (audited_at e p))
+      fails_at torn stopped.Diverged h = first (in_order, λ a. h (subst (λ (x : Table). IsAnsweredOn c x r) (sym s.table) (answered_on c t s.done r a)))
+      fails_at torn stopped.TooMany h = (
         p,
         first
             (in_order, (answered_after c t s.done r (subst (λ (x : Table). IsAnsweredOn c x r) s.table h.0), λ few. h.1 (subst (λ (x : Table). LeavesFewOn c x r) (sym s.table) few))),
       )
-      fails torn stopped.NoMemory h = tt
+      fails_at torn stopped.NoMemory h = tt
+
+      -- so does one that doesn't run again
+      pub fails : (torn : Bool) (e : CallError) (x : AuditError) → x ≡ audited_at e p → EntryAgain c u r (Err e) → AreAudited c t all torn (Err x)
+      fails torn e x is h = subst (λ y. AreAudited c t all torn (Err y)) (sym is) (fails_at torn e h)
 
       -- and one that passes goes with them
-      pub pass_on : (v : Table) (o' : Order) → IsAfter o' (s.done ++ r ∷ []) → EntryAgain c u r (Ok v) → PassSoFar c t all left v o' (n + calls_in (r ∷ [])) (p + 1)
-      pass_on v o' is ran = record {
+      pub pass_on : (v : Table) (o' : Order) (m : ℕ) → IsAfter o' (s.done ++ r ∷ []) → m ≡ calls_in (r ∷ []) → EntryAgain c u r (Ok v) → PassSoFar c t all left v o' (n + m) (p + 1)
+      pass_on v o' m is counted ran = record {
         done = s.done ++ r ∷ [];
         parts = s.parts ∙ sym (append_assoc s.done (r ∷ []) left);
         place = omega (arith, s.place, length-append s.done (r ∷ []));
@@ -79,7 +87,7 @@ module _ (c : List Procedure) (t : Table) (all : List Record) where
             (in_order, (answered_after c t s.done r (subst (λ (x : Table). IsAnsweredOn c x r) s.table ran.0), subst (λ (x : Table). LeavesFewOn c x r) s.table ran.1));
         order = is;
         table = ran.2 ∙ ap (λ (x : Table). table_after c x r) s.table ∙ sym (after-push c t s.done r);
-        calls = ap (λ x. x + calls_in (r ∷ [])) s.calls ∙ sym (calls_in-push s.done r);
+        calls = (λ i. s.calls i + counted i) ∙ sym (calls_in-push s.done r);
       }
 
   pub all_pass : (u : Table) (o : Order) (n p : ℕ) (torn : Bool) → PassSoFar c t all [] u o n p → AreAudited c t all torn (Ok (record { records = p; calls = n; torn = torn }))
@@ -131,23 +139,54 @@ module _ (c : List Procedure) (t : Table) where
   diverged_or_overflow : Excludes (InOrderBut (Diverges c t)) (InOrderBut (Overflows c t))
   diverged_or_overflow l r other full = other.1 full.1.0
 
+-- what checking the records gives
+data Ran (c : List Procedure) (i : Image) (l : List Record) (e : Ending) (x : Result Audited AuditError) : Type 0 where
+  pass : EachAfter (Passes c (table_of i)) l → x ≡ Ok (record { records = length l; calls = calls_in l; torn = is_torn e }) → Ran c i l e x
+  out_of_order : (j : ℕ) → FailsAt IsOutOfOrder c i l j → x ≡ Err (refused.Disorder j) → Ran c i l e x
+  diverged : (j : ℕ) → FailsAt (InOrderBut (Diverges c (table_of i))) c i l j → x ≡ Err (refused.Diverged j) → Ran c i l e x
+  overflowed : (j : ℕ) → FailsAt (InOrderBut (Overflows c (table_of i))) c i l j → x ≡ Err refused.TooMany → Ran c i l e x
+
+module _ (c : List Procedure) (i : Image) (l : List Record) (e : Ending) where
+  one_run : (x y : Result Audited AuditError) → Ran c i l e x → Ran c i l e y → x ≡ y
+  one_run x y (pass m p) (pass n q) = p ∙ sym q
+  one_run x y (pass m p) (out_of_order k g q) = absurd (each_or_first (disorder_fails c (table_of i)) l k m g)
+  one_run x y (pass m p) (diverged k g q) = absurd (each_or_first (diverged_fails c (table_of i)) l k m g)
+  one_run x y (pass m p) (overflowed k g q) = absurd (each_or_first (overflow_fails c (table_of i)) l k m g)
+  one_run x y (out_of_order j f p) (pass n q) = absurd (each_or_first (disorder_fails c (table_of i)) l j n f)
+  one_run x y (out_of_order j f p) (out_of_order k g q) =
+      p ∙ ap (λ n. Err (refused.Disorder n)) (same_first l j k (disorder_fails c (table_of i)) (disorder_fails c (table_of i)) f g) ∙ sym q
+  one_run x y (out_of_order j f p) (diverged k g q) =
+      absurd (one_fault l j k (disorder_fails c (table_of i)) (diverged_fails c (table_of i)) (disorder_or_diverged c (table_of i)) f g)
+  one_run x y (out_of_order j f p) (overflowed k g q) =
+      absurd (one_fault l j k (disorder_fails c (table_of i)) (overflow_fails c (table_of i)) (disorder_or_overflow c (table_of i)) f g)
+  one_run x y (diverged j f p) (pass n q) = absurd (each_or_first (diverged_fails c (table_of i)) l j n f)
+  one_run x y (diverged j f p) (out_of_order k g q) =
+      absurd (one_fault l k j (disorder_fails c (table_of i)) (diverged_fails c (table_of i)) (disorder_or_diverged c (table_of i)) g f)
+  one_run x y (diverged j f p) (diverged k g q) =
+      p ∙ ap (λ n. Err (refused.Diverged n)) (same_first l j k (diverged_fails c (table_of i)) (diverged_fails c (table_of i)) f g) ∙ sym q
+  one_run x y (diverged j f p) (overflowed k g q) =
+      absurd (one_fault l j k (diverged_fails c (table_of i)) (overflow_fails c (table_of i)) (diverged_or_overflow c (table_of i)) f g)
+  one_run x y (overflowed j f p) (pass n q) = absurd (each_or_first (overflow_fails c (table_of i)) l j n f)
+  one_run x y (overflowed j f p) (out_of_order k g q) =
+      absurd (one_fault l k j (disorder_fails c (table_of i)) (overflow_fails c (table_of i)) (disorder_or_overflow c (table_of i)) g f)
+  one_run x y (overflowed j f p) (diverged k g q) =
+      absurd (one_fault l k j (diverged_fails c (table_of i)) (overflow_fails c (table_of i)) (diverged_or_overflow c (table_of i)) g f)
+  one_run x y (overflowed j f p) (overflowed k g q) = p ∙ sym q
+
 -- the kinds of answer
 data Told (c : List Procedure) (i : Image) (v : Version) (h : LogHeader) (l : List Record) (e : Ending) (x : Result Audited AuditError) : Type 0 where
   other_catalog : (NamesCatalog h c → ⊥) → x ≡ Err refused.WrongCatalog → Told c i v h l e x
   other_opening : NamesCatalog h c → (NamesOpening v h i → ⊥) → x ≡ Err refused.WrongOpening → Told c i v h l e x
-  pass : NamesBoth c i v h → EachAfter (Passes c (table_of i)) l → x ≡ Ok (record { records = length l; calls = calls_in l; torn = is_torn e }) → Told c i v h l e x
-  out_of_order : NamesBoth c i v h → (j : ℕ) → FailsAt IsOutOfOrder c i l j → x ≡ Err (refused.Disorder j) → Told c i v h l e x
-  diverged : NamesBoth c i v h → (j : ℕ) → FailsAt (InOrderBut (Diverges c (table_of i))) c i l j → x ≡ Err (refused.Diverged j) → Told c i v h l e x
-  overflowed : NamesBoth c i v h → (j : ℕ) → FailsAt (InOrderBut (Overflows c (table_of i))) c i l j → x ≡ Err refused.TooMany → Told c i v h l e x
+  ran : NamesBoth c i v h → Ran c i l e x → Told c i v h l e x
 
 module _ (c : List Procedure) (i : Image) (v : Version) (h : LogHeader) (l : List Record) (e : Ending) where
   told : (x : Result Audited AuditError) → OfLog c i v h l e x → Told c i v h l e x
-  told (Ok r) a = pass a.0 a.1 (ap (λ (s : Audited). Ok s) a.2)
+  told (Ok r) a = ran a.0 (pass a.1 (ap (λ (s : Audited). Ok s) a.2))
   told (Err refused.WrongCatalog) a = other_catalog a refl
   told (Err refused.WrongOpening) a = other_opening a.0 a.1 refl
-  told (Err (refused.Disorder j)) a = out_of_order a.0 j a.1 refl
-  told (Err (refused.Diverged j)) a = diverged a.0 j a.1 refl
-  told (Err refused.TooMany) a = overflowed a.0 a.1 a.2 refl
+  told (Err (refused.Disorder j)) a = ran a.0 (out_of_order j a.1 refl)
+  told (Err (refused.Diverged j)) a = ran a.0 (diverged j a.1 refl)
+  told (Err refused.TooMany) a = ran a.0 (overflowed a.1 a.2 refl)
   told (Err refused.NotAnOpening) a = absurd a
   told (Err refused.NotALog) a = absurd a
   told (Err (refused.Damaged j)) a = absurd a
@@ -155,49 +194,14 @@ module _ (c : List Procedure) (i : Image) (v : Version) (h : LogHeader) (l : Lis
 
   one_told : (x y : Result Audited AuditError) → Told c i v h l e x → Told c i v h l e y → x ≡ y
   one_told x y (other_catalog a p) (other_catalog b q) = p ∙ sym q
-  one_told x y (other_catalog a p) (other_opening b o q) = absurd (a b)
-  one_told x y (other_catalog a p) (pass b m q) = absurd (a b.0)
-  one_told x y (other_catalog a p) (out_of_order b k g q) = absurd (a b.0)
-  one_told x y (other_catalog a p) (diverged b k g q) = absurd (a b.0)
-  one_told x y (other_catalog a p) (overflowed b k g q) = absurd (a b.0)
+  one_told x y (other_catalog a p) (other_opening b u q) = absurd (a b)
+  one_told x y (other_catalog a p) (ran b s) = absurd (a b.0)
   one_told x y (other_opening a o p) (other_catalog b q) = absurd (b a)
   one_told x y (other_opening a o p) (other_opening b u q) = p ∙ sym q
-  one_told x y (other_opening a o p) (pass b m q) = absurd (o b.1)
-  one_told x y (other_opening a o p) (out_of_order b k g q) = absurd (o b.1)
-  one_told x y (other_opening a o p) (diverged b k g q) = absurd (o b.1)
-  one_told x y (other_opening a o p) (overflowed b k g q) = absurd (o b.1)
-  one_told x y (pass a m p) (other_catalog b q) = absurd (b a.0)
-  one_told x y (pass a m p) (other_opening b u q) = absurd (u a.1)
-  one_told x y (pass a m p) (pass b n q) = p ∙ sym q
-  one_told x y (pass a m p) (out_of_order b k g q) = absurd (each_or_first (disorder_fails c (table_of i)) l k m g)
-  one_told x y (pass a m p) (diverged b k g q) = absurd (each_or_first (diverged_fails c (table_of i)) l k m g)
-  one_told x y (pass a m p) (overflowed b k g q) = absurd (each_or_first (overflow_fails c (table_of i)) l k m g)
-  one_told x y (out_of_order a j f p) (other_catalog b q) = absurd (b a.0)
-  one_told x y (out_of_order a j f p) (other_opening b u q) = absurd (u a.1)
-  one_told x y (out_of_order a j f p) (pass b n q) = absurd (each_or_first (disorder_fails c (table_of i)) l j n f)
-  one_told x y (out_of_order a j f p) (out_of_order b k g q) =
-      p ∙ ap (λ n. Err (refused.Disorder n)) (same_first l j k (disorder_fails c (table_of i)) (disorder_fails c (table_of i)) f g) ∙ sym q
-  one_told x y (out_of_order a j f p) (diverged b k g q) =
-      absurd (one_fault l j k (disorder_fails c (table_of i)) (diverged_fails c (table_of i)) (disorder_or_diverged c (table_of i)) f g)
-  one_told x y (out_of_order a j f p) (overflowed b k g q) =
-      absurd (one_fault l j k (disorder_fails c (table_of i)) (overflow_fails c (table_of i)) (disorder_or_overflow c (table_of i)) f g)
-  one_told x y (diverged a j f p) (other_catalog b q) = absurd (b a.0)
-  one_told x y (diverged a j f p) (other_opening b u q) = absurd (u a.1)
-  one_told x y (diverged a j f p) (pass b n q) = absurd (each_or_first (diverged_fails c (table_of i)) l j n f)
-  one_told x y (diverged a j f p) (out_of_order b k g q) =
-      absurd (one_fault l k j (disorder_fails c (table_of i)) (diverged_fails c (table_of i)) (disorder_or_diverged c (table_of i)) g f)
-  one_told x y (diverged a j f p) (diverged b k g q) =
-      p ∙ ap (λ n. Err (refused.Diverged n)) (same_first l j k (diverged_fails c (table_of i)) (diverged_fails c (table_of i)) f g) ∙ sym q
-  one_told x y (diverged a j f p) (overflowed b k g q) =
-      absurd (one_fault l j k (diverged_fails c (table_of i)) (overflow_fails c (table_of i)) (diverged_or_overflow c (table_of i)) f g)
-  one_told x y (overflowed a j f p) (other_catalog b q) = absurd (b a.0)
-  one_told x y (overflowed a j f p) (other_opening b u q) = absurd (u a.1)
-  one_told x y (overflowed a j f p) (pass b n q) = absurd (each_or_first (overflow_fails c (table_of i)) l j n f)
-  one_told x y (overflowed a j f p) (out_of_order b k g q) =
-      absurd (one_fault l k j (disorder_fails c (table_of i)) (overflow_fails c (table_of i)) (disorder_or_overflow c (table_of i)) g f)
-  one_told x y (overflowed a j f p) (diverged b k g q) =
-      absurd (one_fault l k j (diverged_fails c (table_of i)) (overflow_fails c (table_of i)) (diverged_or_overflow c (table_of i)) g f)
-  one_told x y (overflowed a j f p) (overflowed b k g q) = p ∙ sym q
+  one_told x y (other_opening a o p) (ran b s) = absurd (o b.1)
+  one_told x y (ran a r) (other_catalog b q) = absurd (b a.0)
+  one_told x y (ran a r) (other_opening b u q) = absurd (u a.1)
+  one_told x y (ran a r) (ran b s) = one_run c i l e x y r s
 
   pub one_of_log : (x y : Result Audited AuditError) → OfLog c i v h l e x → OfLog c i v h l e y → x ≡ y
   one_of_log x y a b = one_told x y (told x a) (told y b)
@@ -216,8 +220,7 @@ one_audit c i text x y (inr a) (inr b) = one_of_reading c i a.1 x y a.3 (subst (
 
 pub or_no_memory : (c : List Procedure) (i : Image) (text : Bytes) (x y : Result Audited AuditError) → IsAudit c i text x ⊎ (x ≡ Err refused.NoMemory) → IsAudit c i text y →
     (x ≡ y) ⊎ (x ≡ Err refused.NoMemory)
-or_no_memory c i text x y (inl a) b = inl (one_audit c i text x y a b)
-or_no_memory c i text x y (inr none) b = inr none
+or_no_memory c i text x y a b = ⊎_map (λ is. one_audit c i text x y is b) (λ none. none) a
 
 -- ---- from an opening and bytes
 
@@ -230,8 +233,7 @@ nothing e = Err e
 module _ (c : List Procedure) (i : Image) (text : Bytes) (opening : is_opening i ≡ true) where
   pub from_log : (v : Version) (h : LogHeader) (l : List Record) (e : Ending) (x : Result Audited AuditError) → IsReading text (Log v h l e) →
       OfLog c i v h l e x ⊎ (x ≡ Err refused.NoMemory) → IsAudit c i text x ⊎ (x ≡ Err refused.NoMemory)
-  from_log v h l e x read (inl said) = inl (inr (opening, Log v h l e, read, said))
-  from_log v h l e x read (inr none) = inr none
+  from_log v h l e x read = ⊎_map (λ said. inr (opening, Log v h l e, read, said)) (λ none. none)
 
   pub from_no_log : {X : Type 0} (e : LogError) → (unread {X = X} e ≡ Err log.NotALog → IsReading text NotALog) → ((j : ℕ) → unread {X = X} e ≡ Err (log.Damaged j) → IsReading text (Damaged j)) →
       IsAudit c i text (nothing (audit_of_log e)) ⊎ (nothing (audit_of_log e) ≡ Err refused.NoMemory)

@@ -1,6 +1,7 @@
 -- What is recovered from a log, and that nothing else is.
 use Rattle.std.proofs.Common.{◌≡◌, ◌⊎◌, inl, inr, ℕ, ◌+◌, ◌<◌, Bool, List, Ok, Err, refl, sym, ap, ◌∙◌, subst, arith}
 use Rattle.std.specs.declared.result.Result.{Result}
+use Rattle.std.proofs.Math.Logic.{⊎_map}
 use Rattle.procedure.specs.Bytes.{Bytes}
 use Rattle.procedure.specs.Table.{Table}
 use Rattle.procedure.specs.Procedures.{Procedure}
@@ -139,8 +140,7 @@ one_recovery c is text x y a b = one_of_chain c text (chain_of is) x y a b
 
 pub or_no_memory : (c : List Procedure) (is : List Image) (text : Bytes) (x y : Result Recovery RecoverError) → IsRecovery c is text x ⊎ (x ≡ Err refused.NoMemory) → IsRecovery c is text y →
     (x ≡ y) ⊎ (x ≡ Err refused.NoMemory)
-or_no_memory c is text x y (inl a) b = inl (one_recovery c is text x y a b)
-or_no_memory c is text x y (inr none) b = inr none
+or_no_memory c is text x y a b = ⊎_map (λ told. one_recovery c is text x y told b) (λ none. none) a
 
 -- ---- from images and bytes
 
@@ -151,16 +151,12 @@ abbrev nothing : RecoverError → Result Recovery RecoverError
 nothing e = Err e
 
 module _ (c : List Procedure) (is : List Image) (text : Bytes) (i : Image) (chained : chain_of is ≡ Ok i) where
-  from_reading : (r : Reading) (x : Result Recovery RecoverError) → IsReading text r → OfReading c i r x → IsRecovery c is text x
+  pub from_reading : (r : Reading) (x : Result Recovery RecoverError) → IsReading text r → OfReading c i r x → IsRecovery c is text x
   from_reading r x read told = subst (λ k. OfChain c text k x) (sym chained) (r, read, told)
-
-  pub from_read : (v : Version) (h : LogHeader) (l : List Record) (e : Ending) (x : Result Recovery RecoverError) → IsReading text (Log v h l e) → OfLog c i v h l e x → IsRecovery c is text x
-  from_read v h l e x read said = from_reading (Log v h l e) x read said
 
   pub from_log : (v : Version) (h : LogHeader) (l : List Record) (e : Ending) (x : Result Recovery RecoverError) → IsReading text (Log v h l e) →
       OfLog c i v h l e x ⊎ (x ≡ Err refused.NoMemory) → IsRecovery c is text x ⊎ (x ≡ Err refused.NoMemory)
-  from_log v h l e x read (inl said) = inl (from_read v h l e x read said)
-  from_log v h l e x read (inr none) = inr none
+  from_log v h l e x read = ⊎_map (from_reading (Log v h l e) x read) (λ none. none)
 
   pub from_no_log : {X : Type 0} (e : LogError) → (unread {X = X} e ≡ Err log.NotALog → IsReading text NotALog) → ((j : ℕ) → unread {X = X} e ≡ Err (log.Damaged j) → IsReading text (Damaged j)) →
       IsRecovery c is text (nothing (of_log e)) ⊎ (nothing (of_log e) ≡ Err refused.NoMemory)

@@ -14,6 +14,7 @@ use Rattle.commitlog.proofs.Lists.{slice_get-seam}
 use Rattle.replay.specs.Parts.{EntryAgain, RunAgain, at_place}
 use Rattle.replay.specs.Replays.{IsAnsweredOn, LeavesFewOn, RunsAgain, IsFirst, calls_in}
 use Rattle.replay.specs.declared.calls.CallError.{CallError}
+use Rattle.replay.specs.declared.errors.RecoverError.{RecoverError}
 use Rattle.replay.specs.declared.calls.CallError.TheVariants as stopped
 
 pub answered_after : (c : List Procedure) (t : Table) (l : List Record) (r : Record) → IsAnsweredOn c (after c t l) r → IsAnsweredAfter c t l r
@@ -82,32 +83,39 @@ module _ (c : List Procedure) (t : Table) (k : ℕ) (all : List Record) where
   unfolding after
   at_first = record { done = []; parts = refl; place = omega arith; again = λ i r e. absurd (cc); table = refl; calls = refl }
 
+  -- the next of them is this record
+  pub next_is : (l left : List Record) (next r : Record) (u : Table) (n p : ℕ) → l ≡ next ∷ left → r ≡ next → SoFar c t k all l u n p → SoFar c t k all (r ∷ left) u n p
+  next_is l left next r u n p is same s = subst (λ x. SoFar c t k all x u n p) (is ∙ ap (λ y. y ∷ left) (sym same)) s
+
   module _ (r : Record) (left : List Record) (u : Table) (n p : ℕ) (s : SoFar c t k all (r ∷ left) u n p) where
     -- one that runs again goes with them
-    pub run_on : (v : Table) → EntryAgain c u r (Ok v) → SoFar c t k all left v (n + calls_in (r ∷ [])) (p + 1)
-    run_on v ran = record {
+    pub run_on : (v : Table) (m : ℕ) → m ≡ calls_in (r ∷ []) → EntryAgain c u r (Ok v) → SoFar c t k all left v (n + m) (p + 1)
+    run_on v m counted ran = record {
       done = s.done ++ r ∷ [];
       parts = s.parts ∙ sym (append_assoc s.done (r ∷ []) left);
       place = omega (arith, s.place, length-append s.done (r ∷ []));
       again = each-push (RunsAgain c t) s.done r s.again
           (answered_after c t s.done r (subst (λ (x : Table). IsAnsweredOn c x r) s.table ran.0), subst (λ (x : Table). LeavesFewOn c x r) s.table ran.1);
       table = ran.2 ∙ ap (λ (x : Table). table_after c x r) s.table ∙ sym (after-push c t s.done r);
-      calls = ap (λ x. x + calls_in (r ∷ [])) s.calls ∙ sym (calls_in-push s.done r);
+      calls = (λ i. s.calls i + counted i) ∙ sym (calls_in-push s.done r);
     }
 
     first : {F : List Record → Record → Type 0} → F s.done r → IsFirst (RunsAgain c t) F (drop k all) (length s.done)
     first {F} fault = subst (λ x. IsFirst (RunsAgain c t) F x (length s.done)) (sym s.parts) (first_behind s.done left r s.again fault)
 
-    -- one that doesn't stops the run
-    pub stops : (torn : Bool) (e : CallError) → EntryAgain c u r (Err e) → RunAgain c t k all torn (Err (at_place e p))
-    stops torn stopped.Diverged h =
+    stops_at : (torn : Bool) (e : CallError) → EntryAgain c u r (Err e) → RunAgain c t k all torn (Err (at_place e p))
+    stops_at torn stopped.Diverged h =
         (length s.done, first (λ a. h (subst (λ (x : Table). IsAnsweredOn c x r) (sym s.table) (answered_on c t s.done r a))), s.place)
-    stops torn stopped.TooMany h = (
+    stops_at torn stopped.TooMany h = (
       length s.done,
       first
           (answered_after c t s.done r (subst (λ (x : Table). IsAnsweredOn c x r) s.table h.0), λ few. h.1 (subst (λ (x : Table). LeavesFewOn c x r) (sym s.table) few)),
     )
-    stops torn stopped.NoMemory h = tt
+    stops_at torn stopped.NoMemory h = tt
+
+    -- one that doesn't stops the run
+    pub stops : (torn : Bool) (e : CallError) (x : RecoverError) → x ≡ at_place e p → EntryAgain c u r (Err e) → RunAgain c t k all torn (Err x)
+    stops torn e x is h = subst (λ y. RunAgain c t k all torn (Err y)) (sym is) (stops_at torn e h)
 
     -- the counts stay below that of all records
     pub counts : (n + 1 ≤ length all) × (p + 1 ≤ length all)

@@ -1,11 +1,8 @@
-use Rattle.std.proofs.Common.{rules, ℕ, ◌≤◌, ◌≡◌, ◌+◌, true, false, List, [], ◌∷◌, Err, sym, ap, ◌∙◌, subst, arith, length}
+use Rattle.std.proofs.Common.{rules, ◌≤◌, ◌≡◌, true, false, true≢false, List, [], ◌∷◌, sym, ◌∙◌, subst, arith, length}
 use Rattle.commitlog.specs.declared.limits.TheConstants.{LOG_RECORDS}
 use Rattle.commitlog.specs.Records.{Record, record_of}
-use Rattle.replay.specs.Parts.{AreAudited}
 use Rattle.replay.specs.Replays.{calls_in}
-use Rattle.replay.specs.Orders.{IsInOrder}
-use Rattle.replay.specs.declared.errors.AuditError.{AuditError}
-use Rattle.replay.proofs.Auditing.{PassSoFar, all_pass, none_yet, disorder, fails, pass_on, counts}
+use Rattle.replay.proofs.Auditing.{PassSoFar, all_pass, none_yet, next_is, disorder, fails, pass_on, counts}
 use Rattle.replay.proofs.Reruns.{one_call}
 use Rattle.replay.proofs.audits.audit_records.Goals as goal
 
@@ -14,16 +11,9 @@ loop-table-init g c = none_yet c.args.catalog.now c.args.table c.args.records c.
 
 pub returns-then-not-admits : goal.returns-then-not-admits
 returns-then-not-admits g c =
-    let l = c.loop-table in
-    let here = record_of c.into_entry-entry.result in
-    let left = c.next.new.self in
-    let next : l.records ≡ c.in-Some.made ∷ left = rw c.in-Some.is at c.in_ok-made.ensures.next in
-    let s = subst (λ (x : List Record). PassSoFar c.args.catalog.now c.args.table c.args.records x l.table l.order l.calls l.place)
-    (next ∙ ap (λ (r : Record). r ∷ left) (sym c.into_entry-entry.ensures.value)) l.invariant in
+    let s = next_is _ _ _ _ _ _ _ _ _ _ _ (rw c.in-Some.is at c.in_ok-made.ensures.next) c.into_entry-entry.ensures.value c.loop-table.invariant in
     let refused : c.admits.result ≡ false = search rules in
-    let fits = c.admits.ensures s.done s.order in
-    disorder c.args.catalog.now c.args.table c.args.records here left l.table l.order l.calls l.place s c.args.torn
-    (λ (yes_it_is : IsInOrder s.done here). let admitted : c.admits.result ≡ true = fits.1 yes_it_is in let no_way : false ≡ true = sym refused ∙ admitted in cc)
+    disorder _ _ _ _ _ _ _ _ _ s c.args.torn (λ is. true≢false (sym ((c.admits.ensures s.done s.order).1 is) ∙ refused))
 
 pub overflow_add-calls : goal.overflow_add-calls
 overflow_add-calls g c =
@@ -37,29 +27,15 @@ overflow_add-calls g c =
 
 pub loop-table-preserved : goal.loop-table-preserved
 loop-table-preserved g c =
-    let l = c.loop-table in
-    let here = record_of c.into_entry-entry.result in
-    let left = c.next.new.self in
-    let next : l.records ≡ c.in-Some.made ∷ left = rw c.in-Some.is at c.in_ok-made.ensures.next in
-    let s = subst (λ (x : List Record). PassSoFar c.args.catalog.now c.args.table c.args.records x l.table l.order l.calls l.place)
-    (next ∙ ap (λ (r : Record). r ∷ left) (sym c.into_entry-entry.ensures.value)) l.invariant in
+    let s = next_is _ _ _ _ _ _ _ _ _ _ _ (rw c.in-Some.is at c.in_ok-made.ensures.next) c.into_entry-entry.ensures.value c.loop-table.invariant in
     let admitted : c.admits.result ≡ true = search rules in
-    let in_order = (c.admits.ensures s.done s.order).0 admitted in
-    subst (λ (n : ℕ). PassSoFar c.args.catalog.now c.args.table c.args.records left c.in-Ok.after c.note.new.self n (l.place + 1)) (ap (λ (n : ℕ). l.calls + n) (sym c.calls_of.ensures))
-    (pass_on c.args.catalog.now c.args.table c.args.records here left l.table l.order l.calls l.place s in_order c.in-Ok.after c.note.new.self (c.note.ensures s.done s.order) c.in-Ok.ensures)
+    pass_on _ _ _ _ _ _ _ _ _ s ((c.admits.ensures s.done s.order).0 admitted) _ _ _ (c.note.ensures s.done s.order) c.calls_of.ensures c.in-Ok.ensures
 
 pub returns-in-Err : goal.returns-in-Err
 returns-in-Err g c =
-    let l = c.loop-table in
-    let here = record_of c.into_entry-entry.result in
-    let left = c.next.new.self in
-    let next : l.records ≡ c.in-Some.made ∷ left = rw c.in-Some.is at c.in_ok-made.ensures.next in
-    let s = subst (λ (x : List Record). PassSoFar c.args.catalog.now c.args.table c.args.records x l.table l.order l.calls l.place)
-    (next ∙ ap (λ (r : Record). r ∷ left) (sym c.into_entry-entry.ensures.value)) l.invariant in
+    let s = next_is _ _ _ _ _ _ _ _ _ _ _ (rw c.in-Some.is at c.in_ok-made.ensures.next) c.into_entry-entry.ensures.value c.loop-table.invariant in
     let admitted : c.admits.result ≡ true = search rules in
-    let in_order = (c.admits.ensures s.done s.order).0 admitted in
-    subst (λ (e : AuditError). AreAudited c.args.catalog.now c.args.table c.args.records c.args.torn (Err e)) (sym c.refusal_at.ensures)
-    (fails c.args.catalog.now c.args.table c.args.records here left l.table l.order l.calls l.place s in_order c.args.torn c.in-Err.stopped c.in-Err.ensures)
+    fails _ _ _ _ _ _ _ _ _ s ((c.admits.ensures s.done s.order).0 admitted) c.args.torn c.in-Err.stopped _ c.refusal_at.ensures c.in-Err.ensures
 
 pub returns : goal.returns
 returns g c =

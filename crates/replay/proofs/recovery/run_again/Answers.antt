@@ -1,10 +1,8 @@
-use Rattle.std.proofs.Common.{◌≡◌, ◌≤◌, ◌+◌, ℕ, List, [], ◌∷◌, Err, sym, ap, ◌∙◌, subst, arith, length}
+use Rattle.std.proofs.Common.{◌≡◌, ◌≤◌, List, [], ◌∷◌, refl, sym, subst, arith, length}
 use Rattle.commitlog.specs.declared.limits.TheConstants.{LOG_RECORDS}
 use Rattle.commitlog.specs.Records.{Record, record_of}
-use Rattle.replay.specs.Parts.{RunAgain}
 use Rattle.replay.specs.Replays.{calls_in}
-use Rattle.replay.specs.declared.errors.RecoverError.{RecoverError}
-use Rattle.replay.proofs.Reruns.{SoFar, at_first, counts, ends, one_call, run_on, stops}
+use Rattle.replay.proofs.Reruns.{SoFar, at_first, counts, ends, next_is, one_call, run_on, stops}
 use Rattle.replay.proofs.recovery.run_again.Goals as goal
 
 pub loop-table-init : goal.loop-table-init
@@ -14,10 +12,8 @@ loop-table-init g c =
 
 pub overflow_add-calls : goal.overflow_add-calls
 overflow_add-calls g c =
-    let l = c.loop-table in
-    let told : l.records ≡ c.in-Some.made ∷ c.next.new.self = rw c.in-Some.is at c.in_ok-made.ensures.next in
-    let s = subst (λ (x : List Record). SoFar c.args.catalog.now c.args.table c.args.from c.args.records.now x l.table l.calls l.place) told l.invariant in
-    let small = counts c.args.catalog.now c.args.table c.args.from c.args.records.now c.in-Some.made c.next.new.self l.table l.calls l.place s in
+    let s = next_is _ _ _ _ _ _ _ _ _ _ _ (rw c.in-Some.is at c.in_ok-made.ensures.next) refl c.loop-table.invariant in
+    let small = counts _ _ _ _ _ _ _ _ _ s in
     let one = one_call (record_of c.into_entry-entry.result) in
     let few : length c.args.records.now ≤ LOG_RECORDS = c.requires in
     let given : c.calls_of.result ≡ calls_in (record_of c.into_entry-entry.result ∷ []) = c.calls_of.ensures in
@@ -25,34 +21,20 @@ overflow_add-calls g c =
 
 pub overflow_add-place : goal.overflow_add-place
 overflow_add-place g c =
-    let l = c.loop-table in
-    let told : l.records ≡ c.in-Some.made ∷ c.next.new.self = rw c.in-Some.is at c.in_ok-made.ensures.next in
-    let s = subst (λ (x : List Record). SoFar c.args.catalog.now c.args.table c.args.from c.args.records.now x l.table l.calls l.place) told l.invariant in
-    let small = counts c.args.catalog.now c.args.table c.args.from c.args.records.now c.in-Some.made c.next.new.self l.table l.calls l.place s in
+    let s = next_is _ _ _ _ _ _ _ _ _ _ _ (rw c.in-Some.is at c.in_ok-made.ensures.next) refl c.loop-table.invariant in
+    let small = counts _ _ _ _ _ _ _ _ _ s in
     let few : length c.args.records.now ≤ LOG_RECORDS = c.requires in
     omega arith
 
 pub loop-table-preserved : goal.loop-table-preserved
 loop-table-preserved g c =
-    let l = c.loop-table in
-    let here = record_of c.into_entry-entry.result in
-    let left = c.next.new.self in
-    let told : l.records ≡ c.in-Some.made ∷ left = rw c.in-Some.is at c.in_ok-made.ensures.next in
-    let s = subst (λ (x : List Record). SoFar c.args.catalog.now c.args.table c.args.from c.args.records.now x l.table l.calls l.place)
-    (told ∙ ap (λ (r : Record). r ∷ left) (sym c.into_entry-entry.ensures.value)) l.invariant in
-    subst (λ (n : ℕ). SoFar c.args.catalog.now c.args.table c.args.from c.args.records.now left c.in-Ok.after n (l.place + 1)) (ap (λ (n : ℕ). l.calls + n) (sym c.calls_of.ensures))
-    (run_on c.args.catalog.now c.args.table c.args.from c.args.records.now here left l.table l.calls l.place s c.in-Ok.after c.in-Ok.ensures)
+    let s = next_is _ _ _ _ _ _ _ _ _ _ _ (rw c.in-Some.is at c.in_ok-made.ensures.next) c.into_entry-entry.ensures.value c.loop-table.invariant in
+    run_on _ _ _ _ _ _ _ _ _ s _ _ c.calls_of.ensures c.in-Ok.ensures
 
 pub returns-in-Err : goal.returns-in-Err
 returns-in-Err g c =
-    let l = c.loop-table in
-    let here = record_of c.into_entry-entry.result in
-    let left = c.next.new.self in
-    let told : l.records ≡ c.in-Some.made ∷ left = rw c.in-Some.is at c.in_ok-made.ensures.next in
-    let s = subst (λ (x : List Record). SoFar c.args.catalog.now c.args.table c.args.from c.args.records.now x l.table l.calls l.place)
-    (told ∙ ap (λ (r : Record). r ∷ left) (sym c.into_entry-entry.ensures.value)) l.invariant in
-    subst (λ (e : RecoverError). RunAgain c.args.catalog.now c.args.table c.args.from c.args.records.now c.args.torn (Err e)) (sym c.refusal_at.ensures)
-    (stops c.args.catalog.now c.args.table c.args.from c.args.records.now here left l.table l.calls l.place s c.args.torn c.in-Err.stopped c.in-Err.ensures)
+    let s = next_is _ _ _ _ _ _ _ _ _ _ _ (rw c.in-Some.is at c.in_ok-made.ensures.next) c.into_entry-entry.ensures.value c.loop-table.invariant in
+    stops _ _ _ _ _ _ _ _ _ s c.args.torn c.in-Err.stopped _ c.refusal_at.ensures c.in-Err.ensures
 
 pub returns : goal.returns
 returns g c =
