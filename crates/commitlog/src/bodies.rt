@@ -23,9 +23,6 @@ pub(crate) enum BodyError {
 }
 
 impl From<AllocError> for BodyError {
-    ghost use Rattle.std.specs.Prelude.{◌≡◌};
-    ghost use Rattle.commitlog.specs.declared.bodies.BodyError.TheVariants as errors;
-
     ghost from_gives = { λ _ e. e ≡ errors.NoMemory };
 
     fn from(_refused: AllocError) -> Self {
@@ -34,9 +31,6 @@ impl From<AllocError> for BodyError {
 }
 
 impl<T: Drop> From<AllocFailed<T>> for BodyError {
-    ghost use Rattle.std.specs.Prelude.{◌≡◌};
-    ghost use Rattle.commitlog.specs.declared.bodies.BodyError.TheVariants as errors;
-
     ghost from_gives = { λ _ e. e ≡ errors.NoMemory };
 
     fn from(_refused: AllocFailed<T>) -> Self {

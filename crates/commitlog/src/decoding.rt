@@ -1,9 +1,10 @@
 //! Logs read from bytes.
 
-ghost use Rattle.std.specs.Prelude.{◌≡◌, ℕ, Err, IfOk};
+ghost use Rattle.std.specs.Prelude.{◌≡◌, ℕ, Err, IfOk, Some};
 ghost use Rattle.commitlog.specs.LogReadings.{Damaged, IsReading, NotALog, Reading};
 ghost use Rattle.commitlog.specs.StoredLogs.{IsAnswer, Tells, reading_of};
 ghost use Rattle.commitlog.specs.declared.decoding.LogError.TheVariants as refused;
+ghost use Rattle.commitlog.specs.LogTexts.{log_error_text};
 
 use crate::checking::{CheckedLog, check_whole};
 use crate::formats::{LogHeader, Version};
@@ -45,9 +46,6 @@ pub enum LogError {
 }
 
 impl fmt::Display for LogError {
-    ghost use Rattle.std.specs.Prelude.{Some};
-    ghost use Rattle.commitlog.specs.LogTexts.{log_error_text};
-
     ghost output = { λ e. Some (log_error_text e) };
 
     fn fmt<W: fmt::Write>(&self, f: &mut fmt::Formatter<W>) -> fmt::Result {
@@ -62,9 +60,6 @@ impl fmt::Display for LogError {
 impl Error for LogError {}
 
 impl From<NoMemory> for LogError {
-    ghost use Rattle.std.specs.Prelude.{◌≡◌};
-    ghost use Rattle.commitlog.specs.declared.decoding.LogError.TheVariants as refused;
-
     ghost from_gives = { λ _ e. e ≡ refused.NoMemory };
 
     fn from(_refused: NoMemory) -> Self {

@@ -1,6 +1,6 @@
 //! Logs written as bytes.
 
-ghost use Rattle.std.specs.Prelude.{◌≡◌, ◌≢◌, Err, ◌*◌, ◌≤◌, ◌<◌, ◌↔◌, ◌++◌, IfOk, IsTrue, OnOk, length};
+ghost use Rattle.std.specs.Prelude.{◌≡◌, ◌≢◌, Err, ◌*◌, ◌≤◌, ◌<◌, ◌↔◌, ◌++◌, IfOk, IsTrue, OnOk, length, Some};
 ghost use Rattle.std.specs.List.{AllByRecursion, flat_map};
 ghost use Rattle.byteorder.specs.Endian.{big_bytes};
 ghost use Rattle.procedure.specs.declared.limits.TheConstants.{ARGUMENTS};
@@ -10,6 +10,7 @@ ghost use Rattle.sha2.specs.Sha256.{sha256};
 ghost use Rattle.commitlog.specs.Records.{IsInRange, Token, call_of};
 ghost use Rattle.commitlog.specs.declared.encoding.EncodeError.TheVariants as refused;
 ghost use Rattle.commitlog.specs.LogBytes.{Fits, IsReply, IsValue, IsWithin, answer_bytes, arguments_bytes, body, call_head, first_digest, log_header_bytes, log_bytes, next_digest, phase_code, record_bytes, records_bytes, reply_bytes, value_bytes};
+ghost use Rattle.commitlog.specs.LogTexts.{encode_error_text};
 
 use crate::body_writing::write_body;
 use crate::formats::{LogHeader, Version};
@@ -31,9 +32,6 @@ pub enum EncodeError {
 }
 
 impl fmt::Display for EncodeError {
-    ghost use Rattle.std.specs.Prelude.{Some};
-    ghost use Rattle.commitlog.specs.LogTexts.{encode_error_text};
-
     ghost output = { λ e. Some (encode_error_text e) };
 
     fn fmt<W: fmt::Write>(&self, f: &mut fmt::Formatter<W>) -> fmt::Result {
@@ -47,9 +45,6 @@ impl fmt::Display for EncodeError {
 impl Error for EncodeError {}
 
 impl From<NoMemory> for EncodeError {
-    ghost use Rattle.std.specs.Prelude.{◌≡◌};
-    ghost use Rattle.commitlog.specs.declared.encoding.EncodeError.TheVariants as refused;
-
     ghost from_gives = { λ _ e. e ≡ refused.NoMemory };
 
     fn from(_refused: NoMemory) -> Self {

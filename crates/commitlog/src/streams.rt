@@ -13,7 +13,7 @@ ghost use Rattle.commitlog.specs.StoredLogs.{reading_of};
 ghost use Rattle.commitlog.specs.declared.decoding.LogError.TheVariants as refused;
 ghost use Rattle.commitlog.specs.declared.streams.ReadError.TheVariants as read_refused;
 ghost use Rattle.procedure.specs.Streams.{IsBegun};
-ghost use Rattle.commitlog.specs.Streams.{IsAnswerFrom, ReadsAs, TellsFrom};
+ghost use Rattle.commitlog.specs.Streams.{IsAnswerFrom, ReadsAs, TellsFrom, log_read_error_text, unread_as};
 
 use crate::decoding::{LogError, StoredLog, read_whole};
 use crate::encoding::{longest_body, write_header, write_record};
@@ -37,9 +37,6 @@ pub enum ReadError {
 }
 
 impl fmt::Display for ReadError {
-    ghost use Rattle.std.specs.Prelude.{Some};
-    ghost use Rattle.commitlog.specs.Streams.{log_read_error_text};
-
     ghost output = { λ e. Some (log_read_error_text e) };
 
     fn fmt<W: fmt::Write>(&self, f: &mut fmt::Formatter<W>) -> fmt::Result {
@@ -53,9 +50,6 @@ impl fmt::Display for ReadError {
 impl Error for ReadError {}
 
 impl From<Unread> for ReadError {
-    ghost use Rattle.std.specs.Prelude.{◌≡◌};
-    ghost use Rattle.commitlog.specs.Streams.{unread_as};
-
     ghost from_gives = { λ u e. e ≡ unread_as u };
 
     fn from(unread: Unread) -> Self {
@@ -67,10 +61,6 @@ impl From<Unread> for ReadError {
 }
 
 impl From<AllocError> for ReadError {
-    ghost use Rattle.std.specs.Prelude.{◌≡◌};
-    ghost use Rattle.commitlog.specs.declared.decoding.LogError.TheVariants as refused;
-    ghost use Rattle.commitlog.specs.declared.streams.ReadError.TheVariants as read_refused;
-
     ghost from_gives = { λ _ e. e ≡ read_refused.Log refused.NoMemory };
 
     fn from(_refused: AllocError) -> Self {
