@@ -1,6 +1,9 @@
 //! Why an image isn't written or read.
 
-ghost use Rattle.std.specs.Prelude.{◌≡◌};
+ghost use Rattle.std.specs.Prelude.{◌≡◌, Some};
+ghost use Rattle.image.specs.Texts.{seal_error_text, read_error_text};
+ghost use Rattle.image.specs.declared.errors.SealError.TheVariants as seal_refused;
+ghost use Rattle.image.specs.declared.errors.ReadError.TheVariants as read_refused;
 
 use procedure::NoMemory;
 use std::alloc::{AllocError, AllocFailed};
@@ -16,9 +19,6 @@ pub enum SealError {
 }
 
 impl fmt::Display for SealError {
-    ghost use Rattle.std.specs.Prelude.{Some};
-    ghost use Rattle.image.specs.Texts.{seal_error_text};
-
     ghost output = { λ e. Some (seal_error_text e) };
 
     fn fmt<W: fmt::Write>(&self, f: &mut fmt::Formatter<W>) -> fmt::Result {
@@ -32,9 +32,7 @@ impl fmt::Display for SealError {
 impl Error for SealError {}
 
 impl From<NoMemory> for SealError {
-    ghost use Rattle.image.specs.declared.errors.SealError.TheVariants as refused;
-
-    ghost from_gives = { λ _ e. e ≡ refused.NoMemory };
+    ghost from_gives = { λ _ e. e ≡ seal_refused.NoMemory };
 
     fn from(_refused: NoMemory) -> Self {
         SealError::NoMemory
@@ -57,9 +55,6 @@ pub enum ReadError {
 }
 
 impl fmt::Display for ReadError {
-    ghost use Rattle.std.specs.Prelude.{Some};
-    ghost use Rattle.image.specs.Texts.{read_error_text};
-
     ghost output = { λ e. Some (read_error_text e) };
 
     fn fmt<W: fmt::Write>(&self, f: &mut fmt::Formatter<W>) -> fmt::Result {
@@ -76,9 +71,7 @@ impl fmt::Display for ReadError {
 impl Error for ReadError {}
 
 impl From<NoMemory> for ReadError {
-    ghost use Rattle.image.specs.declared.errors.ReadError.TheVariants as refused;
-
-    ghost from_gives = { λ _ e. e ≡ refused.NoMemory };
+    ghost from_gives = { λ _ e. e ≡ read_refused.NoMemory };
 
     fn from(_refused: NoMemory) -> Self {
         ReadError::NoMemory
@@ -86,9 +79,7 @@ impl From<NoMemory> for ReadError {
 }
 
 impl From<AllocError> for ReadError {
-    ghost use Rattle.image.specs.declared.errors.ReadError.TheVariants as refused;
-
-    ghost from_gives = { λ _ e. e ≡ refused.NoMemory };
+    ghost from_gives = { λ _ e. e ≡ read_refused.NoMemory };
 
     fn from(_refused: AllocError) -> Self {
         ReadError::NoMemory
@@ -96,9 +87,7 @@ impl From<AllocError> for ReadError {
 }
 
 impl<T: Drop> From<AllocFailed<T>> for ReadError {
-    ghost use Rattle.image.specs.declared.errors.ReadError.TheVariants as refused;
-
-    ghost from_gives = { λ _ e. e ≡ refused.NoMemory };
+    ghost from_gives = { λ _ e. e ≡ read_refused.NoMemory };
 
     fn from(_refused: AllocFailed<T>) -> Self {
         ReadError::NoMemory

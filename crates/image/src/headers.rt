@@ -1,9 +1,10 @@
 //! An image in two parts: a header, and entries in the order in which they were captured.
 
-ghost use Rattle.std.specs.Prelude.{◌≡◌, ◌≢◌, Err, IfOk, OnOk, length};
+ghost use Rattle.std.specs.Prelude.{◌≡◌, ◌≢◌, Err, IfOk, OnOk, length, Some};
 ghost use Rattle.byteorder.specs.Endian.{big_bytes};
 ghost use Rattle.image.specs.Headers.{FitsHeader, assembled, chain_digest, linked};
 ghost use Rattle.image.specs.declared.headers.AssembleError.TheVariants as refused;
+ghost use Rattle.image.specs.Texts.{assemble_error_text};
 
 use crate::entries::Entry;
 use crate::images::{Image, Kind};
@@ -37,9 +38,6 @@ pub enum AssembleError {
 }
 
 impl fmt::Display for AssembleError {
-    ghost use Rattle.std.specs.Prelude.{Some};
-    ghost use Rattle.image.specs.Texts.{assemble_error_text};
-
     ghost output = { λ e. Some (assemble_error_text e) };
 
     fn fmt<W: fmt::Write>(&self, f: &mut fmt::Formatter<W>) -> fmt::Result {
@@ -53,9 +51,6 @@ impl fmt::Display for AssembleError {
 impl Error for AssembleError {}
 
 impl From<AllocError> for AssembleError {
-    ghost use Rattle.std.specs.Prelude.{◌≡◌};
-    ghost use Rattle.image.specs.declared.headers.AssembleError.TheVariants as refused;
-
     ghost from_gives = { λ _ e. e ≡ refused.NoMemory };
 
     fn from(_refused: AllocError) -> Self {

@@ -1,6 +1,6 @@
 //! Images, each of them lawful.
 
-ghost use Rattle.std.specs.Prelude.{◌≡◌, ◌<◌, ◌↔◌, Err, IfOk, IfSome, IsSome, IsTrue, map, option_copied};
+ghost use Rattle.std.specs.Prelude.{◌≡◌, ◌<◌, ◌↔◌, Err, IfOk, IfSome, IsSome, IsTrue, map, option_copied, Some};
 ghost use Rattle.procedure.specs.Table.{change_at};
 ghost use Rattle.std.specs.FinMap as finite;
 ghost use Rattle.image.specs.Images.{Image, IsLawfulImage, SuitsKind, changes_of, entries_of, full_image};
@@ -8,6 +8,7 @@ ghost use Rattle.image.specs.Headers.{EachKeyOnce, of_captured};
 ghost use Rattle.image.specs.Openings.{is_opening};
 ghost use Rattle.image.specs.declared.images.Kind.TheVariants.{Full};
 ghost use Rattle.image.specs.declared.images.OpeningError.TheVariants as refused;
+ghost use Rattle.image.specs.Texts.{opening_error_text};
 
 use crate::entries::{Entry, all_present, compared, keys_rise, sort_by_keys};
 use crate::limits::ENTRIES;
@@ -63,9 +64,6 @@ pub enum OpeningError {
 }
 
 impl fmt::Display for OpeningError {
-    ghost use Rattle.std.specs.Prelude.{Some};
-    ghost use Rattle.image.specs.Texts.{opening_error_text};
-
     ghost output = { λ e. Some (opening_error_text e) };
 
     fn fmt<W: fmt::Write>(&self, f: &mut fmt::Formatter<W>) -> fmt::Result {
@@ -79,10 +77,6 @@ impl fmt::Display for OpeningError {
 impl Error for OpeningError {}
 
 impl From<NoMemory> for OpeningError {
-    ghost use Rattle.std.specs.Prelude.{◌≡◌};
-    ghost use Rattle.image.specs.declared.images.Kind.TheVariants.{Full};
-    ghost use Rattle.image.specs.declared.images.OpeningError.TheVariants as refused;
-
     ghost from_gives = { λ _ e. e ≡ refused.NoMemory };
 
     fn from(_refused: NoMemory) -> Self {

@@ -8,6 +8,8 @@ ghost use Rattle.image.specs.Images.{Rises};
 ghost use Rattle.image.specs.Joins.{Say, later_of, lent, present, said_by};
 ghost use Rattle.image.specs.Merges.{Answers, IsChain, chain_refusal, last_of, links_refusal, merged_image, refusal_of};
 ghost use Rattle.image.specs.declared.merges.MergeError.{MergeError};
+ghost use Rattle.image.specs.Texts.{merge_error_text};
+ghost use Rattle.image.specs.declared.merges.MergeError.TheVariants as refused;
 
 use crate::entries::{Entry, compared};
 use crate::images::{Image, Kind, full_of};
@@ -33,9 +35,6 @@ pub enum MergeError {
 }
 
 impl fmt::Display for MergeError {
-    ghost use Rattle.std.specs.Prelude.{Some};
-    ghost use Rattle.image.specs.Texts.{merge_error_text};
-
     ghost output = { λ e. Some (merge_error_text e) };
 
     fn fmt<W: fmt::Write>(&self, f: &mut fmt::Formatter<W>) -> fmt::Result {
@@ -52,9 +51,6 @@ impl fmt::Display for MergeError {
 impl Error for MergeError {}
 
 impl From<AllocError> for MergeError {
-    ghost use Rattle.std.specs.Prelude.{◌≡◌};
-    ghost use Rattle.image.specs.declared.merges.MergeError.TheVariants as refused;
-
     ghost from_gives = { λ _ e. e ≡ refused.NoMemory };
 
     fn from(_refused: AllocError) -> Self {
@@ -63,9 +59,6 @@ impl From<AllocError> for MergeError {
 }
 
 impl From<NoMemory> for MergeError {
-    ghost use Rattle.std.specs.Prelude.{◌≡◌};
-    ghost use Rattle.image.specs.declared.merges.MergeError.TheVariants as refused;
-
     ghost from_gives = { λ _ e. e ≡ refused.NoMemory };
 
     fn from(_refused: NoMemory) -> Self {

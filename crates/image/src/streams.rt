@@ -15,7 +15,9 @@ ghost use Rattle.image.specs.Refusals.{IsAnswer};
 ghost use Rattle.image.specs.declared.errors.ReadError.{ReadError as SpecReadError};
 ghost use Rattle.procedure.specs.declared.streams.WriteError.TheVariants as write_refused;
 ghost use Rattle.procedure.specs.Streams.{IsBegun};
-ghost use Rattle.image.specs.Streams.{BlocksFit, IsAnswerFrom, TellsFrom};
+ghost use Rattle.image.specs.Streams.{BlocksFit, IsAnswerFrom, TellsFrom, read_from_error_text, unread_as};
+ghost use Rattle.image.specs.declared.errors.ReadError.TheVariants as refused;
+ghost use Rattle.image.specs.declared.streams.ReadFromError.TheVariants as read_refused;
 
 use crate::entries::Entry;
 use crate::errors::ReadError;
@@ -39,9 +41,6 @@ pub enum ReadFromError {
 }
 
 impl fmt::Display for ReadFromError {
-    ghost use Rattle.std.specs.Prelude.{Some};
-    ghost use Rattle.image.specs.Streams.{read_from_error_text};
-
     ghost output = { λ e. Some (read_from_error_text e) };
 
     fn fmt<W: fmt::Write>(&self, f: &mut fmt::Formatter<W>) -> fmt::Result {
@@ -55,9 +54,6 @@ impl fmt::Display for ReadFromError {
 impl Error for ReadFromError {}
 
 impl From<Unread> for ReadFromError {
-    ghost use Rattle.std.specs.Prelude.{◌≡◌};
-    ghost use Rattle.image.specs.Streams.{unread_as};
-
     ghost from_gives = { λ u e. e ≡ unread_as u };
 
     fn from(unread: Unread) -> Self {
@@ -69,10 +65,6 @@ impl From<Unread> for ReadFromError {
 }
 
 impl From<AllocError> for ReadFromError {
-    ghost use Rattle.std.specs.Prelude.{◌≡◌};
-    ghost use Rattle.image.specs.declared.errors.ReadError.TheVariants as refused;
-    ghost use Rattle.image.specs.declared.streams.ReadFromError.TheVariants as read_refused;
-
     ghost from_gives = { λ _ e. e ≡ read_refused.Image refused.NoMemory };
 
     fn from(_refused: AllocError) -> Self {

@@ -1,6 +1,9 @@
 //! Why nothing is recovered, and why a log doesn't pass an audit.
 
-ghost use Rattle.std.specs.Prelude.{◌≡◌};
+ghost use Rattle.std.specs.Prelude.{◌≡◌, Some};
+ghost use Rattle.replay.specs.Refusals.{recover_error_text, audit_error_text, of_merge, of_log, audit_of_log};
+ghost use Rattle.replay.specs.declared.errors.RecoverError.TheVariants as recover_refused;
+ghost use Rattle.replay.specs.declared.errors.AuditError.TheVariants as audit_refused;
 
 use commitlog::LogError;
 use image::MergeError;
@@ -61,9 +64,6 @@ pub enum AuditError {
 }
 
 impl fmt::Display for RecoverError {
-    ghost use Rattle.std.specs.Prelude.{Some};
-    ghost use Rattle.replay.specs.Refusals.{recover_error_text};
-
     ghost output = { λ e. Some (recover_error_text e) };
 
     fn fmt<W: fmt::Write>(&self, f: &mut fmt::Formatter<W>) -> fmt::Result {
@@ -86,9 +86,6 @@ impl fmt::Display for RecoverError {
 impl Error for RecoverError {}
 
 impl fmt::Display for AuditError {
-    ghost use Rattle.std.specs.Prelude.{Some};
-    ghost use Rattle.replay.specs.Refusals.{audit_error_text};
-
     ghost output = { λ e. Some (audit_error_text e) };
 
     fn fmt<W: fmt::Write>(&self, f: &mut fmt::Formatter<W>) -> fmt::Result {
@@ -109,8 +106,6 @@ impl fmt::Display for AuditError {
 impl Error for AuditError {}
 
 impl From<MergeError> for RecoverError {
-    ghost use Rattle.replay.specs.Refusals.{of_merge};
-
     ghost from_gives = { λ refused e. e ≡ of_merge refused };
 
     fn from(refused: MergeError) -> Self {
@@ -125,8 +120,6 @@ impl From<MergeError> for RecoverError {
 }
 
 impl From<LogError> for RecoverError {
-    ghost use Rattle.replay.specs.Refusals.{of_log};
-
     ghost from_gives = { λ refused e. e ≡ of_log refused };
 
     fn from(refused: LogError) -> Self {
@@ -139,8 +132,6 @@ impl From<LogError> for RecoverError {
 }
 
 impl From<LogError> for AuditError {
-    ghost use Rattle.replay.specs.Refusals.{audit_of_log};
-
     ghost from_gives = { λ refused e. e ≡ audit_of_log refused };
 
     fn from(refused: LogError) -> Self {
@@ -153,9 +144,7 @@ impl From<LogError> for AuditError {
 }
 
 impl From<NoMemory> for RecoverError {
-    ghost use Rattle.replay.specs.declared.errors.RecoverError.TheVariants as refused;
-
-    ghost from_gives = { λ _ e. e ≡ refused.NoMemory };
+    ghost from_gives = { λ _ e. e ≡ recover_refused.NoMemory };
 
     fn from(_refused: NoMemory) -> Self {
         RecoverError::NoMemory
@@ -163,9 +152,7 @@ impl From<NoMemory> for RecoverError {
 }
 
 impl From<AllocError> for RecoverError {
-    ghost use Rattle.replay.specs.declared.errors.RecoverError.TheVariants as refused;
-
-    ghost from_gives = { λ _ e. e ≡ refused.NoMemory };
+    ghost from_gives = { λ _ e. e ≡ recover_refused.NoMemory };
 
     fn from(_refused: AllocError) -> Self {
         RecoverError::NoMemory
@@ -173,9 +160,7 @@ impl From<AllocError> for RecoverError {
 }
 
 impl From<NoMemory> for AuditError {
-    ghost use Rattle.replay.specs.declared.errors.AuditError.TheVariants as refused;
-
-    ghost from_gives = { λ _ e. e ≡ refused.NoMemory };
+    ghost from_gives = { λ _ e. e ≡ audit_refused.NoMemory };
 
     fn from(_refused: NoMemory) -> Self {
         AuditError::NoMemory
@@ -183,9 +168,7 @@ impl From<NoMemory> for AuditError {
 }
 
 impl From<AllocError> for AuditError {
-    ghost use Rattle.replay.specs.declared.errors.AuditError.TheVariants as refused;
-
-    ghost from_gives = { λ _ e. e ≡ refused.NoMemory };
+    ghost from_gives = { λ _ e. e ≡ audit_refused.NoMemory };
 
     fn from(_refused: AllocError) -> Self {
         AuditError::NoMemory
