@@ -11,7 +11,8 @@ use Rattle.commitlog.specs.declared.formats.Version.{Version}
 use Rattle.commitlog.specs.declared.formats.Version.TheVariants.{One, Two}
 use Rattle.commitlog.specs.LogBytes.{greatest_value, greatest_body, phase_code, value_bytes, reply_bytes, call_head, arguments_bytes, answer_bytes, body, IsValue, IsReply, IsCall, IsWithin, Fits}
 use Rattle.commitlog.specs.BodyReading.{◌>>=◌, byte_in, number_in, value_in, reply_in, many, arguments_in, replies_in, phase_in, token_in, call_in, record_in}
-use Rattle.commitlog.proofs.Fields.{IsBytes, bind_some, some_is, Takes, Takes-then, back_2, back_8, number_takes, number_again, byte_takes, value_takes, value_again, IsCellUpTo, reply_takes, reply_again, many_takes, many_again, phase_takes, phase_again, nothing_left}
+use Rattle.procedure.proofs.TakenBytes.{IsBytes, Takes, Takes-then, back_2, back_8}
+use Rattle.commitlog.proofs.Fields.{bind_some, some_is, number_takes, number_again, byte_takes, value_takes, value_again, IsCellUpTo, reply_takes, reply_again, many_takes, many_again, phase_takes, phase_again, nothing_left}
 
 greatest_fits : (v : Version) → greatest_value v < 65536
 greatest_fits One = omega arith

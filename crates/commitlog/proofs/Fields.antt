@@ -1,31 +1,17 @@
 -- A field that is read is the field that was written, and what was written is read again.
-use Rattle.std.proofs.Common.{◌≡◌, ℕ, zero, suc, ◌+◌, ◌^◌, ◌<◌, ◌≤◌, Bool, true, false, cond, ltb, eqb, List, [], ◌∷◌, ◌++◌, length, get_or, take, drop, Option, Some, None, refl, sym, ap, subst, ◌∙◌, append_assoc, arith, inl, inr}
+use Rattle.std.proofs.Common.{◌≡◌, ℕ, zero, suc, ◌^◌, ◌<◌, ◌≤◌, Bool, true, false, cond, ltb, eqb, List, [], ◌∷◌, ◌++◌, length, take, drop, Option, Some, None, refl, sym, ap, subst, append_assoc, arith}
 use Rattle.std.specs.List.{flat_map, AllByRecursion}
-use Rattle.std.specs.Int.{w16, w32, w64, from_be_bytes}
-use Rattle.std.proofs.lemmas.Bool.{cases_lt, ltb-false, le-ltb, eqb-true}
-use Rattle.std.proofs.lemmas.List.{nil_from_length, take_at, drop_at, take-append-drop, length-append, length-take, get_or-drop, get_or-take, get_or_past}
+use Rattle.std.proofs.lemmas.Bool.{ltb-false, le-ltb, eqb-true}
+use Rattle.std.proofs.lemmas.List.{nil_from_length, take_at, drop_at, take-append-drop, length-append, length-take}
 use Rattle.std.proofs.lemmas.List.Concat.{flat_map-cons}
-use Rattle.std.proofs.lemmas.Nat.{be_bytes_2, be_bytes_4, be_bytes_8}
 use Rattle.byteorder.specs.Endian.{big_bytes, big_number}
-use Rattle.byteorder.specs.Numbers.{length-bytes_high_first, big_from-take, big_from-lt, big_number-reads_back}
+use Rattle.byteorder.specs.Numbers.{length-bytes_high_first, big_from-lt, big_number-reads_back}
 use Rattle.procedure.specs.Bytes.{Bytes, Cell}
 use Rattle.phase.specs.declared.phases.Phase.{Phase}
 use Rattle.phase.specs.declared.phases.Phase.TheVariants.{Rest, Prepare, Resolve, Capture, Complete}
+use Rattle.procedure.proofs.TakenBytes.{IsBytes, IsBytes-drop, SpellsBack, Takes, Takes-then, back_2, front_is}
 use Rattle.commitlog.specs.LogBytes.{phase_code, value_bytes, reply_bytes}
 use Rattle.commitlog.specs.BodyReading.{Read, ◌>>=◌, byte_in, number_in, value_in, reply_in, many, phase_in}
-
-abbrev pub IsBytes : Bytes → Type 0
-IsBytes bytes = (i : ℕ) → get_or bytes i 0 < 256
-
-pub IsBytes-drop : (n : ℕ) (bytes : Bytes) → IsBytes bytes → IsBytes (drop n bytes)
-IsBytes-drop n bytes h i = rw get_or-drop (h (n + i))
-
-pub IsBytes-take : (n : ℕ) (bytes : Bytes) → IsBytes bytes → IsBytes (take n bytes)
-IsBytes-take n bytes h i =
-    elim (cases_lt i n) [
-      | inl lt ↦ rw (get_or-take n bytes i 0 lt) (h i)
-      | inr le ↦ rw (get_or_past (take n bytes) i 0 (omega (arith, length-take n bytes))) (omega arith)
-    ]
 
 -- the value of a step that did not fail
 pub bind_some : {A B : Type 0} (r : Option A) (f : A → Option B) (y : B) → (r >>= f) ≡ Some y → (x : A) × (r ≡ Some x) × (f x ≡ Some y)
@@ -46,39 +32,7 @@ done x = Some x
 pub some_is : {A : Type 0} (x y : A) → done x ≡ done y → x ≡ y
 some_is x y e = cc
 
--- what a reader took from the front
-pub record Takes (bytes text rest : Bytes) : Type 0 where
-  pub parts : bytes ≡ text ++ rest
-  pub rest_fits : IsBytes rest
-
-pub Takes-then : (a x b y c : Bytes) → Takes a x b → Takes b y c → Takes a (x ++ y) c
-Takes-then a x b y c p q = record { parts = p.parts ∙ ap (λ (t : Bytes). x ++ t) q.parts ∙ sym (append_assoc x y c); rest_fits = q.rest_fits }
-
 -- ---- numbers
-
--- the bytes of the number that bytes are
-abbrev pub SpellsBack : ℕ → Type 0
-SpellsBack n = (bytes : Bytes) → length bytes ≡ n → IsBytes bytes → big_bytes n (big_number n bytes) ≡ bytes
-
-pub back_2 : SpellsBack 2
-back_2 bytes len fits =
-    let e : big_number 2 bytes ≡ from_be_bytes w16 bytes = omega arith in
-    be_bytes_2 bytes (big_number 2 bytes) len fits e
-
-pub back_4 : SpellsBack 4
-back_4 bytes len fits =
-    let e : big_number 4 bytes ≡ from_be_bytes w32 bytes = omega arith in
-    be_bytes_4 bytes (big_number 4 bytes) len fits e
-
-pub back_8 : SpellsBack 8
-back_8 bytes len fits =
-    let e : big_number 8 bytes ≡ from_be_bytes w64 bytes = omega arith in
-    be_bytes_8 bytes (big_number 8 bytes) len fits e
-
--- a number at the front of bytes, spelled
-pub front_is : (n : ℕ) → SpellsBack n → (bytes : Bytes) → IsBytes bytes → n ≤ length bytes → big_bytes n (big_number n bytes) ≡ take n bytes
-front_is n back bytes fits long =
-    ap (big_bytes n) (sym (big_from-take 0 n n bytes (omega arith))) ∙ back (take n bytes) (omega (arith, length-take n bytes)) (IsBytes-take n bytes fits)
 
 pub number_takes : (n : ℕ) → SpellsBack n → (bytes : Bytes) (x : ℕ × Bytes) → IsBytes bytes → number_in n bytes ≡ Some x → Takes bytes (big_bytes n x.0) x.1 × (x.0 < 256 ^ n)
 number_takes n back bytes x fits e =

@@ -12,7 +12,7 @@ use Rattle.commitlog.specs.BodyReading.{IsLawful, PassesMany, Read, many, record
 use Rattle.commitlog.specs.LogBytes.{greatest_value}
 use Rattle.commitlog.specs.LogReadings.{IsBody}
 use Rattle.commitlog.proofs.BodyLaws.{record_again, record_takes}
-use Rattle.commitlog.proofs.Fields.{IsBytes}
+use Rattle.procedure.proofs.TakenBytes.{IsBytes}
 use Rattle.commitlog.proofs.Manys.{ends, goes_on, is_done, with_front}
 
 -- so far i of count were read past, and they were these

@@ -8,7 +8,7 @@ use Rattle.commitlog.specs.declared.formats.Version.{Version}
 use Rattle.commitlog.specs.Records.{Record}
 use Rattle.commitlog.specs.LogBytes.{body, next_digest, record_bytes}
 use Rattle.commitlog.specs.LogReadings.{stated_length, stated_body, stated_digest, after_record, IsBody, IsForeign, IsWhole, StandsFirst}
-use Rattle.commitlog.proofs.Fields.{IsBytes, back_4, front_is}
+use Rattle.procedure.proofs.TakenBytes.{IsBytes, back_4, front_is}
 
 -- behind the length, a body of so many bytes, and the digest
 pub behind_all : (n : ℕ) (bytes : Bytes) → drop 32 (drop n (drop 4 bytes)) ≡ drop (4 + n + 32) bytes

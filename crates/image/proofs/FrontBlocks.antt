@@ -15,7 +15,8 @@ use Rattle.image.specs.Fronts.{◌>>=◌, after_ok, block_at, block_then, blocks
 use Rattle.image.specs.Refusals.{IsSpellable, Opens}
 use Rattle.image.specs.declared.errors.ReadError.{ReadError}
 use Rattle.image.specs.declared.errors.ReadError.TheVariants as refused
-use Rattle.image.proofs.FrontEntries.{IsBytes, Takes, Takes-then, bind_some, entries_again, entries_take, parted_again, parted_takes, some_is}
+use Rattle.procedure.proofs.TakenBytes.{IsBytes, Takes, Takes-then}
+use Rattle.image.proofs.FrontEntries.{bind_some, entries_again, entries_take, parted_again, parted_takes, some_is}
 
 abbrev Found : Type 0
 Found = List Entry × (Bytes × Bytes)

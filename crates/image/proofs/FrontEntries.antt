@@ -1,32 +1,18 @@
 -- An entry that is read is the one that was written, and what was written is read again.
-use Rattle.std.proofs.Common.{◌≡◌, ◌≤◌, ◌<◌, ◌^◌, ℕ, zero, suc, ◌+◌, Bool, true, false, cond, ltb, List, [], ◌∷◌, ◌++◌, length, get_or, take, drop, Option, Some, None, refl, sym, ap, subst, ◌∙◌, append_assoc, arith, inl, inr}
+use Rattle.std.proofs.Common.{◌≡◌, ◌≤◌, ◌<◌, ◌^◌, ℕ, zero, suc, Bool, true, false, cond, ltb, List, [], ◌∷◌, ◌++◌, length, take, drop, Option, Some, None, refl, sym, ap, subst, ◌∙◌, append_assoc, arith}
 use Rattle.std.specs.Prelude.{IfSome}
-use Rattle.std.specs.Int.{w16, from_be_bytes}
 use Rattle.std.specs.List.{AllByRecursion}
-use Rattle.std.proofs.lemmas.Bool.{cases_lt, ltb-false, le-ltb}
-use Rattle.std.proofs.lemmas.List.{take_at, drop_at, take-append-drop, length-append, length-take, get_or-drop, get_or-take, get_or_past}
+use Rattle.std.proofs.lemmas.Bool.{ltb-false, le-ltb}
+use Rattle.std.proofs.lemmas.List.{take_at, drop_at, take-append-drop, length-append, length-take}
 use Rattle.std.proofs.lemmas.List.Concat.{flat_map-cons}
-use Rattle.std.proofs.lemmas.Nat.{be_bytes_2}
 use Rattle.byteorder.specs.Endian.{big_bytes, big_number}
 use Rattle.procedure.specs.Bytes.{Bytes, Cell}
+use Rattle.procedure.proofs.TakenBytes.{IsBytes, IsBytes-drop, IsBytes-take, Takes, Takes-then, back_2}
 use Rattle.image.specs.Images.{Entry}
 use Rattle.image.specs.EntryBytes.{cell_bytes, entry_bytes}
 use Rattle.image.specs.ImageBytes.{entries_bytes}
 use Rattle.image.specs.Fronts.{◌>>=◌, parted, key_at, cell_at, entry_at, entries_at}
 use Rattle.image.specs.Refusals.{IsSpellable}
-
-abbrev pub IsBytes : Bytes → Type 0
-IsBytes b = (i : ℕ) → get_or b i 0 < 256
-
-pub IsBytes-drop : (n : ℕ) (b : Bytes) → IsBytes b → IsBytes (drop n b)
-IsBytes-drop n b h i = rw get_or-drop (h (n + i))
-
-pub IsBytes-take : (n : ℕ) (b : Bytes) → IsBytes b → IsBytes (take n b)
-IsBytes-take n b h i =
-    elim (cases_lt i n) [
-      | inl lt ↦ rw (get_or-take n b i 0 lt) (h i)
-      | inr le ↦ rw (get_or_past (take n b) i 0 (omega (arith, length-take n b))) (omega arith)
-    ]
 
 -- a step that found something
 pub bind_some : {X Y : Type 0} (o : Option X) (f : X → Option Y) (y : Y) → (o >>= f) ≡ Some y → (x : X) × (o ≡ Some x) × (f x ≡ Some y)
@@ -39,14 +25,6 @@ some_is x y h = cc
 pub guard_some : {X : Type 0} (b : Bool) (x y : X) → cond b None (Some x) ≡ Some y → (b ≡ false) × (x ≡ y)
 guard_some true x y e = absurd cc
 guard_some false x y e = (refl, some_is x y e)
-
--- what a reader took from the front
-pub record Takes (b text rest : Bytes) : Type 0 where
-  pub parts : b ≡ text ++ rest
-  pub rest_fits : IsBytes rest
-
-pub Takes-then : (a x b y c : Bytes) → Takes a x b → Takes b y c → Takes a (x ++ y) c
-Takes-then a x b y c p q = record { parts = p.parts ∙ ap (λ (t : Bytes). x ++ t) q.parts ∙ sym (append_assoc x y c); rest_fits = q.rest_fits }
 
 pub parted_takes : (n : ℕ) (b x r : Bytes) → IsBytes b → parted n b ≡ Some (x, r) → Takes b x r × (length x ≡ n) × IsBytes x
 parted_takes n b x r fits e =
@@ -66,11 +44,6 @@ parted_again n x r len =
     rw (long, take_at x r n len, drop_at x r n len) refl
 
 -- the two bytes of a value's length
-two_back : (x : Bytes) → length x ≡ 2 → IsBytes x → big_bytes 2 (big_number 2 x) ≡ x
-two_back x len fits =
-    let same : big_number 2 x ≡ from_be_bytes w16 x = omega arith in
-    ap (big_bytes 2) same ∙ be_bytes_2 x (from_be_bytes w16 x) len fits refl
-
 two_below : (x : Bytes) → IsBytes x → big_number 2 x < 2 ^ 16
 two_below x fits = omega (arith, fits 0, fits 1)
 
@@ -91,7 +64,7 @@ cell_takes (suc zero ∷ b) x fits e =
     let v = bind_some (parted (big_number 2 n.0.0) n.0.1) (λ v. Some (Some v.0, v.1)) x n.2 in
     let tn = parted_takes 2 b n.0.0 n.0.1 (λ i. fits (suc i)) n.1 in
     let tv = parted_takes (big_number 2 n.0.0) n.0.1 v.0.0 v.0.1 tn.0.rest_fits v.1 in
-    let length-is : big_bytes 2 (length v.0.0) ≡ n.0.0 = ap (big_bytes 2) tv.1 ∙ two_back n.0.0 tn.1 tn.2 in
+    let length-is : big_bytes 2 (length v.0.0) ≡ n.0.0 = ap (big_bytes 2) tv.1 ∙ back_2 n.0.0 tn.1 tn.2 in
     let both = Takes-then b n.0.0 n.0.1 v.0.0 v.0.1 tn.0 tv.0 in
     let whole : Takes (1 ∷ b) (cell_bytes (Some v.0.0)) v.0.1 =
     record { parts = ap (λ (t : Bytes). 1 ∷ t) (both.parts ∙ ap (λ (t : Bytes). (t ++ v.0.0) ++ v.0.1) (sym length-is)); rest_fits = both.rest_fits } in

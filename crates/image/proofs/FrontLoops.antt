@@ -10,7 +10,8 @@ use Rattle.image.specs.declared.errors.ReadError.{ReadError}
 use Rattle.image.specs.declared.errors.ReadError.TheVariants as refused
 use Rattle.image.specs.ImageBytes.{entries_bytes}
 use Rattle.image.proofs.Blocks.{count-step}
-use Rattle.image.proofs.FrontEntries.{IsBytes, entries_take, some_is}
+use Rattle.procedure.proofs.TakenBytes.{IsBytes}
+use Rattle.image.proofs.FrontEntries.{entries_take, some_is}
 
 -- what was read, where something stands behind it
 pub was_read : {X R : Type 0} (r : R) (read : Option (X × R)) → Some r ≡ behind read → (x : X) × (read ≡ Some (x, r))

@@ -1,12 +1,10 @@
 -- A header that is read is the one that was written, and what was written is read again.
 use Rattle.std.proofs.Common.{◌≡◌, ◌≤◌, ◌<◌, ◌^◌, ℕ, zero, suc, ◌+◌, List, [], ◌∷◌, ◌++◌, length, take, drop, Some, refl, sym, ap, subst, ◌∙◌, arith}
 use Rattle.std.specs.Prelude.{slice_index}
-use Rattle.std.specs.Int.{w32, w64, from_be_bytes}
 use Rattle.std.proofs.Math.Seq.{take-add}
-use Rattle.std.proofs.lemmas.List.{length-drop, length-take}
-use Rattle.std.proofs.lemmas.Nat.{be_bytes_4, be_bytes_8}
+use Rattle.std.proofs.lemmas.List.{length-drop}
 use Rattle.byteorder.specs.Endian.{big_bytes, big_number}
-use Rattle.byteorder.specs.Numbers.{big_from-take, big_number-reads_back}
+use Rattle.byteorder.specs.Numbers.{big_number-reads_back}
 use Rattle.procedure.specs.Bytes.{Bytes}
 use Rattle.image.specs.Images.{Entry, Image}
 use Rattle.image.specs.ImageBytes.{HasNumbers, image_header_bytes, kind_byte}
@@ -15,7 +13,8 @@ use Rattle.image.specs.Readings.{image_at, kind_of}
 use Rattle.image.specs.Refusals.{stated}
 use Rattle.image.specs.declared.images.Kind.{Kind}
 use Rattle.image.specs.declared.images.Kind.TheVariants.{Full, Partial}
-use Rattle.image.proofs.FrontEntries.{IsBytes, IsBytes-drop, IsBytes-take, bind_some, some_is}
+use Rattle.procedure.proofs.TakenBytes.{IsBytes, IsBytes-drop, back_4, back_8, front_is}
+use Rattle.image.proofs.FrontEntries.{bind_some, some_is}
 
 -- ---- from bytes to the header
 
@@ -30,18 +29,10 @@ one_taken zero (x ∷ b) lt = refl
 one_taken (suc n) (x ∷ b) lt = one_taken n b (omega arith)
 
 eight_taken : (k : ℕ) (b : Bytes) → k + 8 ≤ length b → IsBytes b → big_bytes 8 (big_number 8 (drop k b)) ≡ take 8 (drop k b)
-eight_taken k b long fits =
-    let x = take 8 (drop k b) in
-    let len : length x ≡ 8 = omega (arith, length-take 8 (drop k b), length-drop k b) in
-    let same : big_number 8 x ≡ from_be_bytes w64 x = omega arith in
-    ap (big_bytes 8) (sym (big_from-take 0 8 8 (drop k b) (omega arith)) ∙ same) ∙ be_bytes_8 x (from_be_bytes w64 x) len (IsBytes-take 8 (drop k b) (IsBytes-drop k b fits)) refl
+eight_taken k b long fits = front_is 8 back_8 (drop k b) (IsBytes-drop k b fits) (omega (arith, length-drop k b))
 
 four_taken : (k : ℕ) (b : Bytes) → k + 4 ≤ length b → IsBytes b → big_bytes 4 (big_number 4 (drop k b)) ≡ take 4 (drop k b)
-four_taken k b long fits =
-    let x = take 4 (drop k b) in
-    let len : length x ≡ 4 = omega (arith, length-take 4 (drop k b), length-drop k b) in
-    let same : big_number 4 x ≡ from_be_bytes w32 x = omega arith in
-    ap (big_bytes 4) (sym (big_from-take 0 4 4 (drop k b) (omega arith)) ∙ same) ∙ be_bytes_4 x (from_be_bytes w32 x) len (IsBytes-take 4 (drop k b) (IsBytes-drop k b fits)) refl
+four_taken k b long fits = front_is 4 back_4 (drop k b) (IsBytes-drop k b fits) (omega (arith, length-drop k b))
 
 -- the image of a header and entries, where the kind is known
 abbrev made : Kind → Bytes → List Entry → Image

@@ -15,7 +15,8 @@ use Rattle.image.specs.Refusals.{HasHeader, IsAnswer, IsFirst, IsNoImage, IsSeco
 use Rattle.image.specs.declared.limits.TheConstants.{VALUE_BYTES_V1}
 use Rattle.image.specs.declared.errors.ReadError.{ReadError}
 use Rattle.image.specs.declared.errors.ReadError.TheVariants as refused
-use Rattle.image.proofs.FrontEntries.{IsBytes, IsBytes-drop, some_is}
+use Rattle.procedure.proofs.TakenBytes.{IsBytes, IsBytes-drop}
+use Rattle.image.proofs.FrontEntries.{some_is}
 use Rattle.image.proofs.FrontBlocks.{blocks_again, blocks_fail, blocks_stop, blocks_take}
 use Rattle.image.proofs.Readings.{first_signed, second_signed}
 use Rattle.image.proofs.Spellings.{first_again, first_back, first_passed, read_as, read_is, refused_as, refused_is, second_again, second_back, second_passed}

@@ -18,7 +18,8 @@ use Rattle.image.specs.Refusals.{HasHeader, IsFirst, IsSecond, IsSigned, IsSpell
 use Rattle.image.specs.declared.limits.TheConstants.{VALUE_BYTES_V1}
 use Rattle.image.specs.declared.errors.ReadError.{ReadError}
 use Rattle.image.specs.declared.errors.ReadError.TheVariants as refused
-use Rattle.image.proofs.FrontEntries.{IsBytes, IsBytes-drop, IsBytes-take, entries_again, entries_take}
+use Rattle.procedure.proofs.TakenBytes.{IsBytes, IsBytes-drop, IsBytes-take}
+use Rattle.image.proofs.FrontEntries.{entries_again, entries_take}
 use Rattle.image.proofs.FrontBlocks.{blocks_again, blocks_take, front_is}
 use Rattle.image.proofs.HeaderBytes.{entries_are, header_again, header_back}
 use Rattle.image.proofs.Readings.{first_signed, second_signed}

@@ -42,10 +42,6 @@ module _ (out mid first : Bytes) (start : ℕ) (wrote : mid ≡ out ++ first) (i
   pub no_room : (size n k cap more : ℕ) → n ≡ k → size ≡ length mid → cap ≤ more → more < size + n → cap < start + length first + k
   no_room size n k cap more same sized grown full = omega (arith, length_written out mid first wrote)
 
--- what an empty buffer lends once the text is in it
-pub lent : (text empty full slice : Bytes) → empty ≡ [] → full ≡ empty ++ text → slice ≡ full → slice ≡ text
-lent text empty full slice none wrote is = is ∙ wrote ∙ ap (λ (x : Bytes). x ++ text) none
-
 pub less_than_more : (a b n : ℕ) → a < b → a < b + n
 less_than_more a b n lt = omega arith
 

@@ -15,3 +15,4 @@ pub mod Passes
 pub mod Fronts
 pub mod Bounds
 pub mod WriteProgress
+pub mod TakenBytes

@@ -52,6 +52,10 @@ next_item {X} xs i x lt e =
     let next : suc i ≡ i + 1 = omega arith in
     drop-cons xs i x lt ∙ ap (λ (y : X). y ∷ drop (suc i) xs) (sym e) ∙ ap (λ (n : ℕ). x ∷ drop n xs) next
 
+-- what an empty buffer lends once the text is in it
+pub lent : (text empty full : Bytes) → empty ≡ [] → full ≡ empty ++ text → (slice : Bytes) → slice ≡ full → slice ≡ text
+lent text empty full none wrote slice is = is ∙ wrote ∙ ap (λ (x : Bytes). x ++ text) none
+
 -- a write that fails is no want of memory
 pub no_memory : {X : Type 0} (r : Result X WriteError) → IfErr r (λ e. e ≡ WriteFault) → r ≡ Err NoMemory → ⊥
 no_memory (Ok x) h m = absurd (cc)

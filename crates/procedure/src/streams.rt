@@ -1,9 +1,11 @@
 //! Bytes that come from a reader, or go to a writer. A call that is interrupted is a failed one: no call
 //! is tried again.
 
-ghost use Rattle.std.specs.Prelude.{◌≡◌, ◌≤◌, [], IfOk, IsOk, OnErr, OnOk, length};
+ghost use Rattle.std.specs.Prelude.{◌≡◌, ◌≤◌, [], IfOk, IsOk, OnErr, OnOk, length, Some};
 ghost use Rattle.std.specs.Io.KnownBytes.{Appends, Consumes, IsAtEnd};
-ghost use Rattle.procedure.specs.Streams.{IsBegun};
+ghost use Rattle.procedure.specs.Streams.{IsBegun, write_error_text};
+ghost use Rattle.procedure.specs.declared.streams.WriteError.TheVariants as write_refused;
+ghost use Rattle.procedure.specs.declared.streams.Unread.TheVariants as unread;
 
 use crate::memory::NoMemory;
 use std::alloc::{AllocError, Allocator};
@@ -24,9 +26,6 @@ pub enum WriteError {
 }
 
 impl fmt::Display for WriteError {
-    ghost use Rattle.std.specs.Prelude.{Some};
-    ghost use Rattle.procedure.specs.Streams.{write_error_text};
-
     ghost output = { λ e. Some (write_error_text e) };
 
     fn fmt<W: fmt::Write>(&self, f: &mut fmt::Formatter<W>) -> fmt::Result {
@@ -40,9 +39,6 @@ impl fmt::Display for WriteError {
 impl Error for WriteError {}
 
 impl From<NoMemory> for WriteError {
-    ghost use Rattle.std.specs.Prelude.{◌≡◌};
-    ghost use Rattle.procedure.specs.declared.streams.WriteError.TheVariants as write_refused;
-
     ghost from_gives = { λ _ e. e ≡ write_refused.NoMemory };
 
     fn from(_refused: NoMemory) -> Self {
@@ -51,9 +47,6 @@ impl From<NoMemory> for WriteError {
 }
 
 impl From<AllocError> for WriteError {
-    ghost use Rattle.std.specs.Prelude.{◌≡◌};
-    ghost use Rattle.procedure.specs.declared.streams.WriteError.TheVariants as write_refused;
-
     ghost from_gives = { λ _ e. e ≡ write_refused.NoMemory };
 
     fn from(_refused: AllocError) -> Self {
@@ -62,9 +55,6 @@ impl From<AllocError> for WriteError {
 }
 
 impl From<WriteFault> for WriteError {
-    ghost use Rattle.std.specs.Prelude.{◌≡◌};
-    ghost use Rattle.procedure.specs.declared.streams.WriteError.TheVariants as write_refused;
-
     ghost from_gives = { λ _ e. e ≡ write_refused.WriteFault };
 
     fn from(_refused: WriteFault) -> Self {
@@ -81,9 +71,6 @@ pub enum Unread {
 }
 
 impl From<AllocError> for Unread {
-    ghost use Rattle.std.specs.Prelude.{◌≡◌};
-    ghost use Rattle.procedure.specs.declared.streams.Unread.TheVariants as unread;
-
     ghost from_gives = { λ _ e. e ≡ unread.NoMemory };
 
     fn from(_refused: AllocError) -> Self {

@@ -16,10 +16,10 @@ use Rattle.procedure.specs.Streams.{IsBegun}
 use Rattle.image.specs.Streams.{BlocksFit}
 use Rattle.image.proofs.Rooms.{fits_more}
 use Rattle.image.specs.declared.sealing.TheConstants.{MAGIC_V2}
-use Rattle.procedure.proofs.WriteProgress.{begun, begun_on, more_gone, no_memory, nothing_gone, on_err}
+use Rattle.procedure.proofs.WriteProgress.{begun, begun_on, lent, more_gone, no_memory, nothing_gone, on_err}
 use Rattle.procedure.proofs.Results.{if_done}
 use Rattle.image.proofs.Results.{err_of}
-use Rattle.image.proofs.Written.{at_err, lent}
+use Rattle.image.proofs.Written.{at_err}
 use Rattle.image.proofs.streams.seal_to.Goals as goal
 
 pub write_out_blocks-requires : goal.write_out_blocks-requires
@@ -45,7 +45,7 @@ pub returns-in_err-write_out-clause-err : goal.returns-in_err-write_out-clause-e
 returns-in_err-write_out-clause-err g c =
     let p = err_from_is_err_and c.from_residual-in_err-write_out.result c.from_residual-in_err-write_out.ensures.1 in
     let i = c.args.image.now in
-    let written = lent (front i) _ _ _ c.in_ok-buffer.ensures.items c.in_ok-digest.ensures.bytes c.as_slice.ensures.value in
+    let written = lent (front i) _ _ c.in_ok-buffer.ensures.items c.in_ok-digest.ensures.bytes _ c.as_slice.ensures.value in
     rw p.1 (begun_on _ _ _ _ _ (front i) (back i) (nothing_gone _ (version_2 i)) refl (subst (IsBegun _ _) written c.in_err-write_out.ensures.err))
 
 pub returns-clause-err : goal.returns-clause-err
@@ -54,7 +54,7 @@ returns-clause-err g c =
     let old = g.W.Write.contents c.args.writer.now in
     let mid = g.W.Write.contents c.write_out.new.writer in
     let new = g.W.Write.contents c.write_out_blocks.new.writer in
-    let written = lent (front i) _ _ _ c.in_ok-buffer.ensures.items c.in_ok-digest.ensures.bytes c.as_slice.ensures.value in
+    let written = lent (front i) _ _ c.in_ok-buffer.ensures.items c.in_ok-digest.ensures.bytes _ c.as_slice.ensures.value in
     let gone = more_gone old old mid (version_2 i) (version_2 i) (front i) (back i) (nothing_gone old (version_2 i)) refl (subst (Appends old mid) written c.in_ok-write_out.ensures.ok) in
     let part = blocks_are i _ _ c.entries-2.ensures.value c.in_ok-digest.ensures.digest in
     on_err c.write_out_blocks.result (λ b. begun_on old mid new (version_2 i) (back i) (back i) [] gone (sym (append-nil (back i))) (subst (IsBegun mid new) part b)) c.write_out_blocks.ensures.err
@@ -77,7 +77,7 @@ pub returns-clause-ok : goal.returns-clause-ok
 returns-clause-ok g c =
     let i = c.args.image.now in
     let mid = g.W.Write.contents c.write_out.new.writer in
-    let written = lent (front i) _ _ _ c.in_ok-buffer.ensures.items c.in_ok-digest.ensures.bytes c.as_slice.ensures.value in
+    let written = lent (front i) _ _ c.in_ok-buffer.ensures.items c.in_ok-digest.ensures.bytes _ c.as_slice.ensures.value in
     let part = blocks_are i _ _ c.entries-2.ensures.value c.in_ok-digest.ensures.digest in
     if_done (λ a. Appends-trans _ mid _ (front i) (back i) (subst (Appends _ mid) written c.in_ok-write_out.ensures.ok) (subst (Appends mid _) part a))
     c.write_out_blocks.result c.write_out_blocks.ensures.ok

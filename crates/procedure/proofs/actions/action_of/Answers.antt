@@ -86,65 +86,35 @@ returns-in-Read g c =
 
 pub returns-in-Put-clause-value : goal.returns-in-Put-clause-value
 returns-in-Put-clause-value g c =
-    let i = c.args.instruction.now in
-    let args = c.args.args.now in
-    let rs = c.args.registers.now in
-    let found = option_copied c.args.found in
-    let key = option_copied c.key_bytes-key.result in
-    let value = option_copied c.value_of-in-Put-2.result in
-    stands_for c.put_action.result rs (putting rs key value) (effect i args rs found) (c.put_action.ensures rs)
-    (effect-put i args rs found c.in-Put.key c.in-Put.value _ value key c.in-Put.is c.value_of-in-Put.ensures c.key_bytes-key.ensures c.value_of-in-Put-2.ensures)
+    stands_for c.put_action.result c.args.registers.now _ _ (c.put_action.ensures c.args.registers.now)
+    (effect-put _ _ _ _ _ _ _ _ _ c.in-Put.is c.value_of-in-Put.ensures c.key_bytes-key.ensures c.value_of-in-Put-2.ensures)
 
 pub returns-in-Insert-clause-value : goal.returns-in-Insert-clause-value
 returns-in-Insert-clause-value g c =
-    let i = c.args.instruction.now in
-    let args = c.args.args.now in
-    let rs = c.args.registers.now in
-    let found = option_copied c.args.found in
-    let key = option_copied c.key_bytes-key-in-Insert.result in
-    let value = option_copied c.value_of-in-Insert-2.result in
-    stands_for c.insert_action.result rs (inserting rs key value found) (effect i args rs found) (c.insert_action.ensures rs)
-    (effect-insert i args rs found c.in-Insert.key c.in-Insert.value _ value key c.in-Insert.is c.value_of-in-Insert.ensures c.key_bytes-key-in-Insert.ensures c.value_of-in-Insert-2.ensures)
+    stands_for c.insert_action.result c.args.registers.now _ _ (c.insert_action.ensures c.args.registers.now)
+    (effect-insert _ _ _ _ _ _ _ _ _ c.in-Insert.is c.value_of-in-Insert.ensures c.key_bytes-key-in-Insert.ensures c.value_of-in-Insert-2.ensures)
 
 pub returns-in-Delete-clause-value : goal.returns-in-Delete-clause-value
 returns-in-Delete-clause-value g c =
-    let i = c.args.instruction.now in
-    let args = c.args.args.now in
-    let rs = c.args.registers.now in
-    let found = option_copied c.args.found in
-    let key = option_copied c.key_bytes-in-Delete.result in
-    stands_for c.delete_action.result rs (deleting rs key found) (effect i args rs found) (c.delete_action.ensures rs)
-    (effect-delete i args rs found c.in-Delete.key _ key c.in-Delete.is c.value_of-in-Delete.ensures c.key_bytes-in-Delete.ensures)
+    stands_for c.delete_action.result c.args.registers.now _ _ (c.delete_action.ensures c.args.registers.now) (effect-delete _ _ _ _ _ _ _ c.in-Delete.is c.value_of-in-Delete.ensures c.key_bytes-in-Delete.ensures)
 
 pub returns-in-Add-clause-value : goal.returns-in-Add-clause-value
 returns-in-Add-clause-value g c =
-    let i = c.args.instruction.now in
-    let args = c.args.args.now in
     let rs = c.args.registers.now in
-    let found = option_copied c.args.found in
-    let r = c.in-Add.register in
-    let x = c.number_of-x.result in
-    let y = c.number_of.result in
-    let same = effect-add i args rs found r c.in-Add.x c.in-Add.y _ _ x y c.value_of-in-Add.ensures c.value_of-in-Add-2.ensures c.number_of-x.ensures c.number_of.ensures c.in-Add.is in
-    stands_for_own c.add_action.result rs (adding rs r x y) (effect i args rs found) (adding_becomes rs r x y) same (c.add_action.ensures rs)
+    stands_for_own c.add_action.result rs _ _ (adding_becomes rs c.in-Add.register c.number_of-x.result c.number_of.result)
+    (effect-add _ _ _ _ _ _ _ _ _ _ _ c.value_of-in-Add.ensures c.value_of-in-Add-2.ensures c.number_of-x.ensures c.number_of.ensures c.in-Add.is) (c.add_action.ensures rs)
 
 pub returns-in-Sub-clause-value : goal.returns-in-Sub-clause-value
 returns-in-Sub-clause-value g c =
-    let i = c.args.instruction.now in
-    let args = c.args.args.now in
     let rs = c.args.registers.now in
-    let found = option_copied c.args.found in
-    let r = c.in-Sub.register in
-    let x = c.number_of-x-in-Sub.result in
-    let y = c.number_of-in-Sub.result in
-    let same = effect-sub i args rs found r c.in-Sub.x c.in-Sub.y _ _ x y c.value_of-in-Sub.ensures c.value_of-in-Sub-2.ensures c.number_of-x-in-Sub.ensures c.number_of-in-Sub.ensures c.in-Sub.is in
-    stands_for_own c.sub_action.result rs (subtracting rs r x y) (effect i args rs found) (subtracting_becomes rs r x y) same (c.sub_action.ensures rs)
+    stands_for_own c.sub_action.result rs _ _ (subtracting_becomes rs c.in-Sub.register c.number_of-x-in-Sub.result c.number_of-in-Sub.result)
+    (effect-sub _ _ _ _ _ _ _ _ _ _ _ c.value_of-in-Sub.ensures c.value_of-in-Sub-2.ensures c.number_of-x-in-Sub.ensures c.number_of-in-Sub.ensures c.in-Sub.is) (c.sub_action.ensures rs)
 
 pub returns-after-test_holds-clause-value : goal.returns-after-test_holds-clause-value
 returns-after-test_holds-clause-value g c =
+    let rs = c.args.registers.now in
     let i = c.args.instruction.now in
     let args = c.args.args.now in
-    let rs = c.args.registers.now in
     let found = option_copied c.args.found in
     let t = c.in-AbortIf.test in
     let code = c.in-AbortIf.code in

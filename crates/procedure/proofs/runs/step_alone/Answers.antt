@@ -1,23 +1,19 @@
-use Rattle.std.proofs.Common.{sym, ◌∙◌, ap}
+use Rattle.std.proofs.Common.{refl, sym, ◌∙◌, ap}
 use Rattle.procedure.specs.Runs.{Execution}
 use Rattle.procedure.specs.Table.{with_change_of}
 use Rattle.procedure.proofs.Fronts.{need_ended, need_going, alone_past, changes_past, goes_alone, noted_alone}
 use Rattle.procedure.proofs.runs.step_alone.Goals as goal
 
-pub returns-in-Ended-clause-outcome : goal.returns-in-Ended-clause-outcome
-returns-in-Ended-clause-outcome g c =
+pub returns-in-Ended : goal.returns-in-Ended
+returns-in-Ended g c =
     let x = c.args.machine.now in
-    sym (need_ended x.args x.progress c.in-Ended.outcome (sym c.in_ok-need.ensures.value ∙ c.in-Ended.is))
-
-pub returns-in-Ended-clause-progress : goal.returns-in-Ended-clause-progress
-returns-in-Ended-clause-progress g c =
-    let x = c.args.machine.now in
-    sym (alone_past x.args c.args.table.now x.progress c.args.changes.now c.in-Ended.outcome (sym c.in_ok-need.ensures.value ∙ c.in-Ended.is))
-
-pub returns-in-Ended-clause-changes : goal.returns-in-Ended-clause-changes
-returns-in-Ended-clause-changes g c =
-    let x = c.args.machine.now in
-    sym (changes_past x.args c.args.table.now x.progress c.args.changes.now c.in-Ended.outcome (sym c.in_ok-need.ensures.value ∙ c.in-Ended.is))
+    let asks = sym c.in_ok-need.ensures.value ∙ c.in-Ended.is in
+    record {
+      outcome = sym (need_ended x.args x.progress c.in-Ended.outcome asks);
+      args = refl;
+      progress = sym (alone_past x.args c.args.table.now x.progress c.args.changes.now c.in-Ended.outcome asks);
+      changes = sym (changes_past x.args c.args.table.now x.progress c.args.changes.now c.in-Ended.outcome asks);
+    }
 
 pub returns : goal.returns
 returns g c =

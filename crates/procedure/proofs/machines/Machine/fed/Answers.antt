@@ -100,13 +100,10 @@ push_reserved-requires g c =
     (reads_after_read m.code m.place c.in-Some.instruction.now c.in-Some.ensures.value read)
 
 pub invariant_of-self : goal.invariant_of-self
-invariant_of-self g c =
-    let m = c.self.inside in
-    record {
-      within = within m.place (length m.code) (c.in-Some.ensures.within.0 refl);
-      room = next_room (length m.replies.items) (count_by is_read (drop m.place m.code)) (count_by is_read (drop (m.place + 1) m.code)) (vec_capacity m.replies) c.self.invariant.room
-          (reads_after m.code m.place c.in-Some.instruction.now c.in-Some.ensures.value);
-    }
+invariant_of-self g c = record {
+  within = within _ _ (c.in-Some.ensures.within.0 refl);
+  room = next_room _ _ _ _ c.self.invariant.room (reads_after c.self.inside.code c.self.inside.place _ c.in-Some.ensures.value);
+}
 
 pub invariant_of-self-in-Load : goal.invariant_of-self-in-Load
 invariant_of-self-in-Load g c =
@@ -122,13 +119,10 @@ invariant_of-self-in-Load g c =
     }
 
 pub invariant_of-self-in-Pass : goal.invariant_of-self-in-Pass
-invariant_of-self-in-Pass g c =
-    let m = c.self.inside in
-    record {
-      within = within m.place (length m.code) (c.in-Some.ensures.within.0 refl);
-      room = next_room (length m.replies.items) (count_by is_read (drop m.place m.code)) (count_by is_read (drop (m.place + 1) m.code)) (vec_capacity m.replies) c.self.invariant.room
-          (reads_after m.code m.place c.in-Some.instruction.now c.in-Some.ensures.value);
-    }
+invariant_of-self-in-Pass g c = record {
+  within = within _ _ (c.in-Some.ensures.within.0 refl);
+  room = next_room _ _ _ _ c.self.invariant.room (reads_after c.self.inside.code c.self.inside.place _ c.in-Some.ensures.value);
+}
 
 pub invariant_of-self-in-End : goal.invariant_of-self-in-End
 invariant_of-self-in-End g c =
