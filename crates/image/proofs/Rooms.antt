@@ -7,14 +7,14 @@ use Rattle.image.specs.EntryBytes.{entry_bytes}
 use Rattle.image.specs.ImageBytes.{block_count, entries_bytes}
 use Rattle.image.specs.Streams.{BlocksFit}
 use Rattle.image.proofs.Blocks.{count-step}
-use Rattle.image.proofs.Walks.{next_is}
+use Rattle.procedure.proofs.WriteProgress.{next_item}
 
 -- an entry at a place, and those behind it, take no more than all of them
 pub entry_among : (es : List Entry) (i : ℕ) (e : Entry) (out old : Bytes) → i < length es → e ≡ get_or es i e → out ++ entries_bytes (drop i es) ≡ old ++ entries_bytes es →
     length out + length (entry_bytes e) ≤ length old + length (entries_bytes es)
 entry_among es i e out old lt is whole =
     let rest = entries_bytes (drop (i + 1) es) in
-    let front : length (entries_bytes (drop i es)) ≡ length (entry_bytes e) + length rest = ap (λ (l : List Entry). length (entries_bytes l)) (next_is es i e lt is) ∙
+    let front : length (entries_bytes (drop i es)) ≡ length (entry_bytes e) + length rest = ap (λ (l : List Entry). length (entries_bytes l)) (next_item es i e lt is) ∙
     length-append (entry_bytes e) rest in
     let left = length-append out (entries_bytes (drop i es)) in
     let right = length-append old (entries_bytes es) in

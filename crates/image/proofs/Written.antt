@@ -1,18 +1,15 @@
 -- Bytes that are written one after another, and a call that fails between.
-use Rattle.std.proofs.Common.{◌≡◌, ◌<◌, ◌≤◌, ℕ, ◌+◌, ◌-◌, ◌^◌, [], ◌∷◌, ◌++◌, length, take, drop, Ok, Err, OnOk, OnErr, ap, ◌∙◌, append_assoc, arith}
+use Rattle.std.proofs.Common.{◌≡◌, ◌<◌, ◌≤◌, ℕ, ◌+◌, ◌-◌, ◌^◌, [], ◌∷◌, ◌++◌, length, take, drop, Ok, Err, OnOk, OnErr, ap, ◌∙◌, arith}
 use Rattle.std.specs.Result.{IsErrAnd}
 use Rattle.std.specs.declared.result.Result.{Result}
 use Rattle.std.proofs.Math.Seq.{drop-append_seam}
 use Rattle.std.proofs.lemmas.List.{length-append, length-drop, take_all}
 use Rattle.byteorder.specs.Endian.{big_bytes}
 use Rattle.procedure.specs.Bytes.{Bytes}
+use Rattle.procedure.proofs.Passes.{written_then}
 use Rattle.image.specs.Images.{Image}
 use Rattle.image.specs.ImageBytes.{image_header_bytes, kind_byte}
 use Rattle.image.specs.declared.limits.TheConstants.{ENTRIES}
-
--- what is written in turn stands in turn
-pub written_then : (out mid after first second : Bytes) → mid ≡ out ++ first → after ≡ mid ++ second → after ≡ out ++ (first ++ second)
-written_then out mid after first second one two = two ∙ ap (λ (o : Bytes). o ++ second) one ∙ append_assoc out first second
 
 pub no_less : (a b c : ℕ) → a ≤ b → b ≤ c → a ≤ c
 no_less a b c one two = omega arith

@@ -3,7 +3,7 @@ use Rattle.std.proofs.lemmas.List.{drop_all}
 use Rattle.procedure.specs.Bytes.{Bytes}
 use Rattle.image.specs.Images.{Entry}
 use Rattle.image.specs.Headers.{linked_all}
-use Rattle.image.proofs.Walks.{next_is}
+use Rattle.procedure.proofs.WriteProgress.{next_item}
 use Rattle.image.proofs.headers.chain_of.Goals as goal
 
 pub loop-entry-preserved : goal.loop-entry-preserved
@@ -11,7 +11,7 @@ loop-entry-preserved g c =
     let l = c.loop-entry in
     let es = c.args.entries.now in
     ap (λ (d : Bytes). linked_all d (drop (l.entry-index + 1) es)) c.link-chain.ensures
-    ∙ sym (ap (λ (rest : List Entry). linked_all l.chain rest) (next_is es l.entry-index c.entry-item.result c.loop-entry-test.true c.entry-item.is))
+    ∙ sym (ap (λ (rest : List Entry). linked_all l.chain rest) (next_item es l.entry-index c.entry-item.result c.loop-entry-test.true c.entry-item.is))
     ∙ l.invariant
 
 pub returns : goal.returns

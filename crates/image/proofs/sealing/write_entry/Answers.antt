@@ -3,7 +3,7 @@ use Rattle.byteorder.specs.Endian.{big_bytes}
 use Rattle.procedure.specs.Bytes.{Bytes, Cell}
 use Rattle.image.specs.Images.{Entry}
 use Rattle.image.specs.EntryBytes.{entry_bytes}
-use Rattle.image.proofs.Written.{written_then}
+use Rattle.procedure.proofs.Passes.{written_then}
 use Rattle.image.proofs.sealing.write_entry.Goals as goal
 
 -- the key and what stands behind it, as the entry's bytes

@@ -6,7 +6,8 @@ use Rattle.procedure.specs.declared.limits.TheConstants.{VALUE_BYTES}
 use Rattle.image.specs.Images.{Entry}
 use Rattle.image.specs.ImageBytes.{IsWithin, entries_bytes, image_header_bytes}
 use Rattle.image.specs.declared.sealing.TheConstants.{MAGIC_V1}
-use Rattle.image.proofs.Written.{digest_then, part_within, written_then}
+use Rattle.procedure.proofs.Passes.{written_then}
+use Rattle.image.proofs.Written.{digest_then, part_within}
 use Rattle.image.proofs.sealing.write_v1.Goals as goal
 
 entries_written : (out mid new header : Bytes) (es given : List Entry) → mid ≡ out ++ header → new ≡ mid ++ entries_bytes es → es ≡ given → new ≡ out ++ (header ++ entries_bytes given)

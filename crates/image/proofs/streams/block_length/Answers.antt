@@ -5,7 +5,7 @@ use Rattle.image.specs.Images.{Entry}
 use Rattle.image.specs.EntryBytes.{entry_bytes}
 use Rattle.image.specs.ImageBytes.{entries_bytes}
 use Rattle.image.specs.declared.limits.TheConstants.{BLOCK}
-use Rattle.image.proofs.Walks.{next_is}
+use Rattle.procedure.proofs.WriteProgress.{next_item}
 use Rattle.image.proofs.streams.block_length.Goals as goal
 
 next_fits : (counted size i n : ℕ) → i < n → n ≤ BLOCK → counted ≤ 32 + i * (KEY_BYTES + VALUE_BYTES + 4) → size ≤ KEY_BYTES + VALUE_BYTES + 4 → counted + size < 2 ^ 64
@@ -17,7 +17,7 @@ next_most counted size i so_far small = omega arith
 next_counted : (es : List Entry) (i : ℕ) (e : Entry) (counted size all : ℕ) → i < length es → e ≡ get_or es i e → size ≡ length (entry_bytes e) → counted + length (entries_bytes (drop i es)) ≡ all →
     (counted + size) + length (entries_bytes (drop (i + 1) es)) ≡ all
 next_counted es i e counted size all within here is so_far =
-    let first = ap (λ (l : List Entry). length (entries_bytes l)) (next_is es i e within here) ∙ length-append (entry_bytes e) (entries_bytes (drop (i + 1) es)) in
+    let first = ap (λ (l : List Entry). length (entries_bytes l)) (next_item es i e within here) ∙ length-append (entry_bytes e) (entries_bytes (drop (i + 1) es)) in
     omega (arith, first, is, so_far)
 
 all_counted : (es : List Entry) (i counted all : ℕ) → length es ≤ i → counted + length (entries_bytes (drop i es)) ≡ all → counted ≡ all
