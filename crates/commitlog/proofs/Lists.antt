@@ -2,7 +2,8 @@
 use Rattle.std.proofs.Common.{◌≡◌, ℕ, zero, suc, ◌+◌, ◌-◌, ◌≤◌, ◌<◌, List, [], ◌∷◌, ◌++◌, length, take, drop, reverse, Some, refl, sym, ap, ◌∙◌, subst, arith}
 use Rattle.std.specs.Prelude.{slice_get, slice_range}
 use Rattle.std.proofs.lemmas.Grind.{reverse_onto}
-use Rattle.std.proofs.lemmas.List.{reverse-reverse, take-append-le, drop-append-le, length-drop}
+use Rattle.std.proofs.Math.Seq.{take-add}
+use Rattle.std.proofs.lemmas.List.{reverse-reverse, take-append-le, drop-append-le, drop-drop, length-drop}
 
 reverse_push : {X : Type 0} (x : X) (xs : List X) → reverse (x ∷ xs) ≡ reverse xs ++ (x ∷ [])
 reverse_push x xs = reverse_onto xs x []
@@ -32,38 +33,14 @@ slice_get-take (x ∷ xs) i zero l = absurd (omega arith)
 slice_get-take (x ∷ xs) zero (suc j) l = refl
 slice_get-take (x ∷ xs) (suc i) (suc j) l = slice_get-take xs i j (omega arith)
 
-take-none : {X : Type 0} (n : ℕ) → take {A = X} n [] ≡ []
-take-none zero = refl
-take-none (suc n) = refl
-
-drop-none : {X : Type 0} (n : ℕ) → drop {A = X} n [] ≡ []
-drop-none zero = refl
-drop-none (suc n) = refl
-
-take-sum : {X : Type 0} (a b : ℕ) (xs : List X) → take (a + b) xs ≡ take a xs ++ take b (drop a xs)
-take-sum zero b xs = ap (λ n. take n xs) (omega arith)
-take-sum (suc a) b [] = take-none (suc a + b) ∙ sym (take-none b)
-take-sum (suc a) b (x ∷ xs) = ap (λ n. take n (x ∷ xs)) more ∙ ap (λ ys. x ∷ ys) (take-sum a b xs)
-  where
-    more : suc a + b ≡ suc (a + b)
-    more = omega arith
-
-drop-sum : {X : Type 0} (a b : ℕ) (xs : List X) → drop b (drop a xs) ≡ drop (a + b) xs
-drop-sum zero b xs = ap (λ n. drop n xs) (omega arith)
-drop-sum (suc a) b [] = drop-none b ∙ sym (drop-none (suc a + b))
-drop-sum (suc a) b (x ∷ xs) = drop-sum a b xs ∙ ap (λ n. drop n (x ∷ xs)) more
-  where
-    more : suc (a + b) ≡ suc a + b
-    more = omega arith
-
 -- what stands before a place, and from there to a later one
 pub take_and_range : {X : Type 0} (xs : List X) (i j : ℕ) → i ≤ j → take i xs ++ slice_range xs i j ≡ take j xs
-take_and_range xs i j l = sym (take-sum i (j - i) xs) ∙ ap (λ n. take n xs) (omega arith)
+take_and_range xs i j l = sym (take-add i (j - i) xs) ∙ ap (λ n. take n xs) (omega arith)
 
 pub ranges_join : {X : Type 0} (xs : List X) (i j k : ℕ) → i ≤ j → j ≤ k → slice_range xs i k ≡ slice_range xs i j ++ slice_range xs j k
 ranges_join xs i j k l m =
-    ap (λ n. take n (drop i xs)) (parts) ∙ take-sum (j - i) (k - j) (drop i xs)
-    ∙ ap (λ ys. slice_range xs i j ++ take (k - j) ys) (drop-sum i (j - i) xs ∙ ap (λ n. drop n xs) (within))
+    ap (λ n. take n (drop i xs)) (parts) ∙ take-add (j - i) (k - j) (drop i xs)
+    ∙ ap (λ ys. slice_range xs i j ++ take (k - j) ys) (drop-drop (j - i) i xs ∙ ap (λ n. drop n xs) (within))
   where
     parts : k - i ≡ (j - i) + (k - j)
     parts = omega arith
