@@ -50,13 +50,13 @@ block_out before d es b r out new whole some front back written digest all =
     ∙ ap (λ (x : Bytes). out ++ x) (sym (block_split before es b r some front back))
     ∙ all
 
+pub all_both : (P : Entry → Type 0) (es fs : List Entry) → AllByRecursion P es → AllByRecursion P fs → AllByRecursion P (es ++ fs)
+all_both P [] fs h k = k
+all_both P (e ∷ es) fs h k = (h.0, all_both P es fs h.1 k)
+
 pub all_parts : (P : Entry → Type 0) (es b r : List Entry) (k : ℕ) → b ≡ take k es → r ≡ drop k es → AllByRecursion P b → AllByRecursion P r → AllByRecursion P es
 all_parts P es b r k front back here there =
-    subst (AllByRecursion P) ((λ i. front i ++ back i) ∙ take-append-drop k es) (both b here)
-  where
-    both : (xs : List Entry) → AllByRecursion P xs → AllByRecursion P (xs ++ r)
-    both [] h = there
-    both (x ∷ xs) h = (h.0, both xs h.1)
+    subst (AllByRecursion P) ((λ i. front i ++ back i) ∙ take-append-drop k es) (all_both P b r here there)
 
 -- entries of which it was asked whether any are left
 pub some_left : {X : Type 0} (b : Bool) (es : List X) → b ≡ (length es == 0) → b ≡ false → 0 < length es

@@ -16,6 +16,7 @@ use Rattle.image.specs.Refusals.{IsSpellable, Opens}
 use Rattle.image.specs.declared.errors.ReadError.{ReadError}
 use Rattle.image.specs.declared.errors.ReadError.TheVariants as refused
 use Rattle.procedure.proofs.TakenBytes.{IsBytes, Takes, Takes-then}
+use Rattle.image.proofs.Blocks.{all_both}
 use Rattle.image.proofs.FrontEntries.{bind_some, entries_again, entries_take, parted_again, parted_takes, some_is}
 
 abbrev Found : Type 0
@@ -81,10 +82,6 @@ all_drop : (P : Entry → Type 0) (n : ℕ) (es : List Entry) → AllByRecursion
 all_drop P zero es h = h
 all_drop P (suc n) [] h = tt
 all_drop P (suc n) (e ∷ es) h = all_drop P n es h.1
-
-all_both : (P : Entry → Type 0) (es fs : List Entry) → AllByRecursion P es → AllByRecursion P fs → AllByRecursion P (es ++ fs)
-all_both P [] fs h k = k
-all_both P (e ∷ es) fs h k = (h.0, all_both P es fs h.1 k)
 
 -- a block's entries and those after them, of n entries in all
 record Cut (es fs : List Entry) : Type 0 where
