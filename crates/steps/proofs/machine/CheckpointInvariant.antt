@@ -12,13 +12,13 @@ use Rattle.phase.specs.declared.phases.Phase.TheVariants.{Rest, Prepare, Resolve
 use Rattle.procedure.proofs.Base.{change_at-none, change_at-with, keys, same_refl}
 use Rattle.procedure.specs.Bytes.{Bytes, Cell, same}
 use Rattle.procedure.specs.Runs.{no_keys, with_key}
-use Rattle.procedure.specs.Table.{value_at, change_at}
+use Rattle.procedure.specs.Table.{Changes, value_at, change_at}
 use Rattle.steps.proofs.machine.OpenCalls.{yes_no, none_some, same_Some}
 use Rattle.steps.proofs.machine.HistoryGrowth.{finished_below, images_grow, resolved_there, has_cut, before-resolve, before-own, sets_prepare, sets_resolve, sets_capture, sets_complete, sets_rest, sets_abandon, pending}
 use Rattle.steps.proofs.machine.RecordStatus.{resolve_not}
 use Rattle.steps.proofs.machine.InstructionSteps.{unwritten}
-use Rattle.steps.specs.machine.NewestFirst.{history_table, history_phase, history_number, before, history_resolves, since, at, history_last_finished, history_last_number, IsCut}
-use Rattle.steps.specs.machine.Invariant.{Invariant, Cuts, Sets, IsAlone, MayFinish, Finishing, IsApart, Unchanged, Held, Early, Lives, starts, Statuses, status, StatusAtCapture, ScanKeeps, ScanKeepsIn, passed}
+use Rattle.steps.specs.machine.NewestFirst.{history_table, history_phase, history_number, before, history_resolves, since, at, history_last_finished, history_last_number, last_finished_at, IsCut}
+use Rattle.steps.specs.machine.Invariant.{Invariant, Cuts, Lawful, Recorded, Sets, IsAlone, MayFinish, Finishing, IsApart, Unchanged, Held, Early, Lives, starts, Statuses, status, StatusAtCapture, ScanKeeps, ScanKeepsIn, passed}
 use Rattle.steps.specs.Refusals.{is_cutting}
 use Rattle.steps.specs.machine.Machine.{Open, CallsBySession, State, AllStarted, now, start, resolve, capture, visit, complete, rest, abandon, reclaim, image, base_at, to_visit, keeps, give, cleaned_versions, restarted_open, MayVisit, MayReclaim}
 use Rattle.steps.specs.Versions.{KeyVersions, VersionsByKey, live_version, gives, gives_at, captured_at}
@@ -59,6 +59,37 @@ module _ (w : State) (good : Invariant w) where
       (subst (λ f. f + pending p ≤ history_number w.log) good.lawful.finished
       (subst (λ x. history_last_finished w.log + pending x ≤ history_number w.log) (good.lawful.phase ∙ e) (finished_below w.log good.lawful.cyclic)))
 
+  -- what the log says after one token more
+  token_lawful : (p q : Phase) (m : ℕ) → w.phase ≡ p → Follows p w.number q m → Lawful w.catalog w.opening (Token q m ∷ w.log) q m (last_finished_at q m w.finished)
+  unfolding history_table history_last_finished
+  token_lawful p q m e follows = record {
+    legal = good.lawful.legal;
+    orderly = good.lawful.orderly;
+    cyclic = (next_token p q m e follows, good.lawful.cyclic);
+    phase = refl;
+    number = refl;
+    finished = ap (last_finished_at q m) good.lawful.finished;
+  }
+
+  -- the records and what a scan has given, changed between two tokens
+  versions_good :
+      (vs : VersionsByKey) (given : Changes) (visited : Bytes → Bool) → Lives (now w) w.calls vs →
+      Statuses w.phase (now w) (at w.catalog w.opening w.number w.log) w.calls vs (passed w.all visited w.bound) w.frozen → Recorded vs w.collecting w.frozen →
+      ScanKeepsIn w.phase w.kind (at w.catalog w.opening w.number w.log) visited w.bound w.frozen given → Invariant (record w { versions = vs; given = given; visited = visited })
+  versions_good vs given visited lives statuses recorded scan = record {
+    lawful = good.lawful;
+    machines = good.machines;
+    finishing = good.finishing;
+    apart = good.apart;
+    lives = lives;
+    started = good.started;
+    statuses = statuses;
+    recorded = recorded;
+    sets = good.sets;
+    scan = scan;
+    images = good.images;
+  }
+
   same_finishing : (p : Phase) (n : ℕ) → Finishing w.catalog (Token p n ∷ w.log) w.calls
   unfolding history_last_number
   same_finishing p n s c e = record { procedure = (good.finishing s c e).procedure; number = (good.finishing s c e).number }
@@ -67,15 +98,7 @@ module _ (w : State) (good : Invariant w) where
   unfolding history_table before history_last_finished
   start_good k e =
       record {
-        lawful = record {
-          legal = good.lawful.legal;
-          orderly = good.lawful.orderly;
-          cyclic = (next_token Rest Prepare (suc w.number) e refl, good.lawful.cyclic);
-          phase = refl;
-          number =
-              refl;
-          finished = good.lawful.finished;
-        };
+        lawful = token_lawful Rest Prepare (suc w.number) e refl;
         machines = good.machines;
         finishing = same_finishing Prepare (suc w.number);
         apart = good.apart;
@@ -100,15 +123,7 @@ module _ (w : State) (good : Invariant w) where
   resolve_good e all =
       let cut : before w.number (Token Resolve w.number ∷ w.log) ≡ w.log = before-own w.log w.number in
       record {
-        lawful = record {
-          legal = good.lawful.legal;
-          orderly = good.lawful.orderly;
-          cyclic = (next_token Prepare Resolve w.number e refl, good.lawful.cyclic);
-          phase = refl;
-          number = refl;
-          finished =
-              good.lawful.finished;
-        };
+        lawful = token_lawful Prepare Resolve w.number e refl;
         machines = good.machines;
         finishing = same_finishing Resolve w.number;
         apart = good.apart;
@@ -143,15 +158,7 @@ module _ (w : State) (good : Invariant w) where
   unfolding history_table before history_last_finished
   capture_good all e started kinds =
       record {
-        lawful = record {
-          legal = good.lawful.legal;
-          orderly = good.lawful.orderly;
-          cyclic = (next_token Resolve Capture w.number e refl, good.lawful.cyclic);
-          phase = refl;
-          number = refl;
-          finished =
-              good.lawful.finished;
-        };
+        lawful = token_lawful Resolve Capture w.number e refl;
         machines = good.machines;
         finishing = same_finishing Capture w.number;
         apart = good.apart;
@@ -299,23 +306,11 @@ module _ (w : State) (good : Invariant w) where
 
     pub visit_good : Invariant (visit w k v)
     visit_good =
-        record {
-          lawful = good.lawful;
-          machines = good.machines;
-          finishing = good.finishing;
-          apart = good.apart;
-          started = good.started;
-          sets = good.sets;
-          images = good.images;
-          lives = visit_lives;
-          statuses =
-              subst (λ p. Statuses p (now w) (at w.catalog w.opening w.number w.log) w.calls (λ q. cond (same q k) (Some (captured_at v.available v)) (w.versions q)) seen' w.frozen)
-              (sym may.phase) visited_status;
-          recorded = λ q e. visit_some q (same q k) (good.recorded q e);
-          scan =
-              subst (λ p. ScanKeepsIn p w.kind (at w.catalog w.opening w.number w.log) (with_key k w.visited) w.bound w.frozen (give w.given k (keeps w.kind (w.frozen k) (gives v)))) (sym may.phase)
-              (record { entries = entry_at; full = (scan_at may.phase).full; covers = (scan_at may.phase).covers });
-        }
+        versions_good (visit w k v).versions (visit w k v).given (with_key k w.visited) visit_lives
+        (subst (λ p. Statuses p (now w) (at w.catalog w.opening w.number w.log) w.calls (visit w k v).versions seen' w.frozen) (sym may.phase) visited_status)
+        (λ q e. visit_some q (same q k) (good.recorded q e))
+        (subst (λ p. ScanKeepsIn p w.kind (at w.catalog w.opening w.number w.log) (with_key k w.visited) w.bound w.frozen (visit w k v).given) (sym may.phase)
+        (record { entries = entry_at; full = (scan_at may.phase).full; covers = (scan_at may.phase).covers }))
 
   -- ---- the end of a checkpoint
 
@@ -372,15 +367,7 @@ module _ (w : State) (good : Invariant w) where
     unfolding history_table before history_last_finished
     complete_good =
         record {
-          lawful = record {
-            legal = good.lawful.legal;
-            orderly = good.lawful.orderly;
-            cyclic = (next_token Capture Complete w.number e refl, good.lawful.cyclic);
-            phase = refl;
-            number =
-                refl;
-            finished = refl;
-          };
+          lawful = token_lawful Capture Complete w.number e refl;
           machines = good.machines;
           finishing = same_finishing Complete w.number;
           apart = good.apart;
@@ -423,15 +410,7 @@ module _ (w : State) (good : Invariant w) where
   unfolding history_table before history_last_finished
   rest_good e all =
       record {
-        lawful = record {
-          legal = good.lawful.legal;
-          orderly = good.lawful.orderly;
-          cyclic = (next_token Complete Rest w.number e refl, good.lawful.cyclic);
-          phase = refl;
-          number = refl;
-          finished =
-              good.lawful.finished;
-        };
+        lawful = token_lawful Complete Rest w.number e refl;
         machines = good.machines;
         finishing = same_finishing Rest w.number;
         apart = good.apart;
@@ -484,21 +463,11 @@ module _ (w : State) (good : Invariant w) where
 
     pub reclaim_good : Invariant (reclaim w k)
     reclaim_good =
-        record {
-          lawful = good.lawful;
-          machines = good.machines;
-          finishing = good.finishing;
-          apart = good.apart;
-          started = good.started;
-          sets = good.sets;
-          images = good.images;
-          lives = record { own = reclaim_own; table = λ q un. reclaim_table q (keys q k) un };
-          statuses = subst (λ p. Statuses p (now w) (at w.catalog w.opening w.number w.log) w.calls left seen w.frozen) (sym may.phase)
-              (λ q. reclaim_status q (same q k) (value_at (now w) q) (value_at (at w.catalog w.opening w.number w.log) q) (seen q) (w.frozen q) (Unchanged w.calls q) (Held w.calls q) (Early w.calls q)
-              (statuses_at Rest may.phase q));
-          recorded = λ q e. reclaim_recorded q (keys q k) e;
-          scan = good.scan;
-        }
+        versions_good left w.given w.visited (record { own = reclaim_own; table = λ q un. reclaim_table q (keys q k) un })
+        (subst (λ p. Statuses p (now w) (at w.catalog w.opening w.number w.log) w.calls left seen w.frozen) (sym may.phase) (λ q.
+        reclaim_status q (same q k) (value_at (now w) q) (value_at (at w.catalog w.opening w.number w.log) q) (seen q) (w.frozen q) (Unchanged w.calls q) (Held w.calls q) (Early w.calls q)
+        (statuses_at Rest may.phase q)))
+        (λ q e. reclaim_recorded q (keys q k) e) good.scan
 
   -- ---- a checkpoint is given up
 
@@ -518,15 +487,7 @@ module _ (w : State) (good : Invariant w) where
     unfolding history_table before history_last_finished
     abandon_good =
         record {
-          lawful = record {
-            legal = good.lawful.legal;
-            orderly = good.lawful.orderly;
-            cyclic = (next_token ph Rest w.number e next, good.lawful.cyclic);
-            phase = refl;
-            number = refl;
-            finished =
-                good.lawful.finished;
-          };
+          lawful = token_lawful ph Rest w.number e next;
           machines = restarted_all (λ u d. IsAlone w.catalog (now w) d) w.calls (λ u d h. record { machine = (good.machines u d h).machine; undo = (good.machines u d h).undo });
           finishing =
               restarted_all (λ u d. MayFinish w.catalog (Token Rest w.number ∷ w.log) u d) w.calls

@@ -43,60 +43,20 @@ pub runs_good : {a w : State} → Runs a w → Invariant a → Invariant w
 runs_good none g = g
 runs_good (more r s) g = goes_good s (runs_good r g)
 
+same_base : {w x : State} → Goes w x → (x.catalog ≡ w.catalog) × (x.opening ≡ w.opening)
+same_base (Begins s n p args m) = (refl, refl)
+same_base _ = (refl, refl)
+
 -- catalog and opening stay
-same_catalog : {w x : State} → Goes w x → x.catalog ≡ w.catalog
-same_catalog (Begins s n p args m) = refl
-same_catalog (Steps s c m) = refl
-same_catalog (Commits s c i e z) = refl
-same_catalog (Aborts s c i e z) = refl
-same_catalog (Gives_up s c i) = refl
-same_catalog (Starts k e) = refl
-same_catalog (Resolves e a) = refl
-same_catalog (Captures b e a k) = refl
-same_catalog (Visits k v m) = refl
-same_catalog (Completes e d) = refl
-same_catalog (Rests e a) = refl
-same_catalog (Reclaims k v m) = refl
-same_catalog (Abandons e) = refl
-
-same_opening : {w x : State} → Goes w x → x.opening ≡ w.opening
-same_opening (Begins s n p args m) = refl
-same_opening (Steps s c m) = refl
-same_opening (Commits s c i e z) = refl
-same_opening (Aborts s c i e z) = refl
-same_opening (Gives_up s c i) = refl
-same_opening (Starts k e) = refl
-same_opening (Resolves e a) = refl
-same_opening (Captures b e a k) = refl
-same_opening (Visits k v m) = refl
-same_opening (Completes e d) = refl
-same_opening (Rests e a) = refl
-same_opening (Reclaims k v m) = refl
-same_opening (Abandons e) = refl
-
-kept_catalog : {a w : State} → Runs a w → w.catalog ≡ a.catalog
-kept_catalog none = refl
-kept_catalog (more r s) = same_catalog s ∙ kept_catalog r
-
-kept_opening : {a w : State} → Runs a w → w.opening ≡ a.opening
-kept_opening none = refl
-kept_opening (more r s) = same_opening s ∙ kept_opening r
+kept_base : {a w : State} → Runs a w → (w.catalog ≡ a.catalog) × (w.opening ≡ a.opening)
+kept_base none = (refl, refl)
+kept_base (more r s) = ((same_base s).0 ∙ (kept_base r).0, (same_base s).1 ∙ (kept_base r).1)
 
 -- each answered call once
 goes_calls : {w x : State} (g : Goes w x) → (l : List Record) → calls_of w.log ≡ l → calls_of x.log ≡ with_answer g l
-goes_calls (Begins s n p args m) l e = e
-goes_calls (Steps s c m) l e = e
 goes_calls (Commits s c i f z) l e = ap (λ k. answer s c ∷ k) e
 goes_calls (Aborts s c i f z) l e = ap (λ k. answer s c ∷ k) e
-goes_calls (Gives_up s c i) l e = e
-goes_calls (Starts k f) l e = e
-goes_calls (Resolves f a) l e = e
-goes_calls (Captures b f a k) l e = e
-goes_calls (Visits k v m) l e = e
-goes_calls (Completes f d) l e = e
-goes_calls (Rests f a) l e = e
-goes_calls (Reclaims k v m) l e = e
-goes_calls (Abandons f) l e = e
+goes_calls _ l e = e
 
 runs_calls : {a w : State} (r : Runs a w) → calls_of a.log ≡ [] → calls_of w.log ≡ answers r
 runs_calls none e = e
@@ -126,14 +86,8 @@ goes_open (Steps {w = w} s c m) b e t = e t ∙ same_shown w.calls s c (stepped 
 goes_open (Commits {w = w} s c i f z) b e t = put_shown w.calls s None b e t
 goes_open (Aborts {w = w} s c i f z) b e t = put_shown w.calls s None b e t
 goes_open (Gives_up {w = w} s c i) b e t = put_shown w.calls s None b e t
-goes_open (Starts k f) b e t = e t
-goes_open (Resolves f a) b e t = e t
-goes_open (Captures d f a k) b e t = e t
-goes_open (Visits k v m) b e t = e t
-goes_open (Completes f d) b e t = e t
-goes_open (Rests f a) b e t = e t
-goes_open (Reclaims k v m) b e t = e t
 goes_open (Abandons {w = w} f) b e t = e t ∙ sym (shown_restarted (w.calls t))
+goes_open _ b e t = e t
 
 runs_open : {a w : State} (r : Runs a w) → ((t : ℕ) → None ≡ begun_of (a.calls t)) → (t : ℕ) → open_of r t ≡ begun_of (w.calls t)
 runs_open none e t = e t
@@ -232,10 +186,10 @@ module _ (c : List Procedure) (t : Table) (w : State) (r : Runs (initial c t) w)
   good = runs_good r (initial_good c t)
 
   is_c : w.catalog ≡ c
-  is_c = kept_catalog r ∙ start_catalog
+  is_c = (kept_base r).0 ∙ start_catalog
 
   is_t : w.opening ≡ t
-  is_t = kept_opening r ∙ start_opening
+  is_t = (kept_base r).1 ∙ start_opening
 
   legal_here : IsLegalHistory c t w.log
   legal_here = subst (λ x. IsLegalHistory x t w.log) is_c (subst (λ x. IsLegalHistory w.catalog x w.log) is_t good.lawful.legal)

@@ -1,20 +1,17 @@
 -- A core whose image is finished.
 use Rattle.std.proofs.Common.{◌≡◌, ℕ, ◌+◌, ◌<◌, ◌≤◌, inl, inr, arith, Bool, true, false, cond, List, [], ◌∷◌, ◌++◌, get_or, length, reverse, Option, Some, None, is_some, Vec, refl, sym, ap, ◌∙◌, subst, true≢false}
 use Rattle.std.specs.Prelude.{IsSome, nat_lt}
-use Rattle.std.specs.Cmp.Lexicographic.{nat_list_cmp_total}
 use Rattle.std.specs.FinMap as fin
 use Rattle.std.proofs.lemmas.Bool.{ltb-false}
-use Rattle.std.proofs.lemmas.List.Sums.{sum_by-cons}
 use Rattle.procedure.specs.Bytes.{Bytes, Cell, same}
 use Rattle.procedure.specs.Procedures.{Procedure}
 use Rattle.procedure.specs.Table.{Changes, Table, change_at, value_at}
-use Rattle.procedure.proofs.Base.{keys, same_refl}
 use Rattle.phase.specs.declared.phases.Phase.TheVariants.{Capture, Complete}
 use Rattle.commitlog.specs.Cuts as cuts
 use Rattle.commitlog.specs.Logs.{Log}
 use Rattle.commitlog.specs.Records.{Record, Token}
 use Rattle.image.proofs.Joins.{is_true}
-use Rattle.image.proofs.Rising.{by_bytes, find_at}
+use Rattle.image.proofs.Rising.{find_at}
 use Rattle.image.proofs.Sorting.{changes_of-captured}
 use Rattle.image.specs.Headers.{FitsHeader, assembled, map_of, of_captured}
 use Rattle.image.specs.Images as taken
@@ -24,7 +21,6 @@ use Rattle.image.specs.declared.headers.Header.{Header}
 use Rattle.image.specs.declared.images.Kind.{Kind}
 use Rattle.image.specs.declared.images.Kind.TheVariants.{Full, Partial}
 use Rattle.image.specs.declared.limits.TheConstants.{ENTRIES}
-use Rattle.record_store.proofs.Versions.{version_of-new}
 use Rattle.record_store.specs.ChangedSets.{ChangedSets, has, empty_set}
 use Rattle.record_store.specs.Stores as store
 use Rattle.record_store.specs.Versions as stored
@@ -52,34 +48,10 @@ use Rattle.steps.proofs.machine.HistoryGrowth.{finished_below, pending}
 use Rattle.steps.proofs.machine.OpenCalls.{same_Some}
 use Rattle.steps.proofs.phases.ResolveAndRest.{entered_log, none_in_empty, number_here}
 use Rattle.steps.proofs.scans.ScanPlaces.{recorded_at}
-use Rattle.steps.proofs.store.KeyCount.{at_most_one, same_is, version_of-other, version_of-vacant, version_there}
+use Rattle.steps.proofs.store.KeyCount.{few_keys, version_there}
 use Rattle.steps.proofs.views.CoreState.{good}
 use Rattle.steps.proofs.machine.ScheduleInvariant.{runs_good}
 use Rattle.steps.specs.declared.reclaiming.Aside.TheVariants.{Unknown}
-
--- THE ENTRIES, EACH OF A KEY THAT HAS A RECORD
-
-not_there : (o : Option Cell) → (is_some o ≡ true → ⊥) → o ≡ None
-not_there None f = refl
-not_there (Some x) f = absurd (f refl)
-
-few_changes : (slots : store.Slots) (m : Changes) → ((q : Bytes) → is_some (change_at m q) ≡ true → is_some (stored.version_of slots q) ≡ true) → fin.len m ≤ store.records slots
-few_changes [] m f =
-    let none : m ≡ fin.empty =
-    fin.same_map nat_list_cmp_total (fin.slice_cmp-IsAntisymmetric fin.nat_cmp-IsAntisymmetric) m fin.empty
-    (λ q. not_there (change_at m q) (λ e. true≢false (sym (f q e) ∙ ap is_some (version_of-new q))) ∙ sym (fin.get-empty by_bytes q)) in
-    subst (λ n. n ≤ 0) (sym (ap fin.len none ∙ fin.len-empty by_bytes Cell)) (omega arith)
-few_changes (None ∷ slots) m f = few_changes slots m (λ q e. sym (ap is_some (version_of-vacant slots q)) ∙ f q e)
-few_changes (Some r ∷ slots) m f =
-    let less = few_changes slots (fin.remove m r.key) (λ q e. elim (keys q r.key) [
-      | inl is ↦
-          absurd
-          (true≢false (sym e ∙ ap is_some (fin.get-remove nat_list_cmp_total m r.key q ∙ ap (λ b. cond b None (change_at m q)) (sym (same_is q r.key) ∙ ap (λ k. same k r.key) is ∙ same_refl r.key))))
-      | inr n ↦
-          sym (ap is_some (version_of-other r slots q n)) ∙ f q (sym (ap is_some (fin.get-remove nat_list_cmp_total m r.key q ∙ ap (λ b. cond b None (change_at m q)) (sym (same_is q r.key) ∙ n))) ∙ e)
-    ]) in
-    subst (λ n. fin.len m ≤ n) (sym (sum_by-cons (λ (o : Option store.StoreRecord). cond (is_some o) 1 0) (Some r) slots))
-    (at_most_one (fin.contains_key m r.key) (fin.len (fin.remove m r.key)) (fin.len m) (store.records slots) (fin.len-remove nat_list_cmp_total m r.key) less)
 
 visited_by : (b : Bool) (o : Option Cell) → is_some (cond b o None) ≡ true → b ≡ true
 visited_by true o e = refl
@@ -163,7 +135,7 @@ module _ {A : Type 0} (c : Inside A) (ok : IsCore c) (phase_is : c.phase ≡ Cap
   pub made_lawful : store.records c.store ≤ STORE_RECORDS → IsLawfulImage made
   made_lawful most = record {
     few =
-        let few = few_changes c.store entries has_record in
+        let few = few_keys c.store entries has_record in
         subst (λ n. n ≤ ENTRIES) (fin.len-entries entries) (omega (arith, few, most));
     rises = is_true _ (fin.entries_sorted entries);
     kind = suits c.checkpoint.kind refl;
@@ -172,7 +144,7 @@ module _ {A : Type 0} (c : Inside A) (ok : IsCore c) (phase_is : c.phase ≡ Cap
   -- as many entries were given as an image may have, at most
   pub few_given : store.records c.store ≤ STORE_RECORDS → length c.checkpoint.given.entries ≤ ENTRIES
   few_given most =
-      let few = few_changes c.store entries has_record in
+      let few = few_keys c.store entries has_record in
       let once = (scan_here c ok phase_is).once in
       omega (arith, few, most, once)
 

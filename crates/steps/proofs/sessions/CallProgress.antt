@@ -1,5 +1,5 @@
 -- Whether a call has ended, by its machine as it is kept and by its run alone.
-use Rattle.std.proofs.Common.{◌≡◌, ℕ, Bool, true, false, not, cond, List, Some, None, Vec, option_map, refl, sym, ap, ◌∙◌, subst, ◌||◌, true≢false}
+use Rattle.std.proofs.Common.{◌≡◌, ℕ, Bool, true, false, not, cond, List, Option, Some, None, Vec, map, option_map, slice_index_or, refl, sym, ap, ◌∙◌, subst, ◌||◌, true≢false}
 use Rattle.std.specs.Prelude.{◌==◌, length}
 use Rattle.std.specs.Option.{option_or}
 use Rattle.std.proofs.lemmas.Bool.{eq-eqb, ne_eqb}
@@ -11,7 +11,7 @@ use Rattle.record_store.specs.ChangedSets.{ChangedSets, has}
 use Rattle.commitlog.specs.declared.limits.TheConstants.{LOG_RECORDS}
 use Rattle.steps.proofs.reclaim.SetAside.{aside_kept}
 use Rattle.steps.specs.machine.NewestFirst.{before}
-use Rattle.steps.specs.inside.CoreFields.{IsCore, call_at, underway, view_of, either}
+use Rattle.steps.specs.inside.CoreFields.{IsCore, SameCall, call_at, start_of, underway, view_of, either}
 use Rattle.image.specs.Merges.{table_of}
 use Rattle.steps.specs.CoreViews.{CoreView, IsSmall, Underway, OfOpen, front_of, open_at}
 use Rattle.steps.specs.Refusals.{refused_unless, unfinished, finish_refusal}
@@ -91,19 +91,19 @@ module _ {A : Type 0} (c : Inside A) (ok : IsCore c) (v : CoreView) (same : view
   pub replies_are : (k : OpenCall A) (replies : List Cell) → call_at c s ≡ Some k → replies ≡ k.machine.progress.replies → OfOpen v s (λ u. replies ≡ (front_of v u).replies)
   replies_are k replies is e = progress_of k is (λ p. replies ≡ p.replies) e
 
-module _ {A : Type 0} where
-  -- more room changes nothing that stands for the machine
-  pub roomy_core :
-      (c : Inside A) → IsCore c → (log : Log) (changed : ChangedSets) → log.records ≡ c.log.records → changed.collecting ≡ c.changed.collecting → changed.frozen ≡ c.changed.frozen →
-      IsCore (record c { log = log; changed = changed })
-  roomy_core c ok log changed e f h = record {
+module _ {A : Type 0} (c : Inside A) (ok : IsCore c) where
+  -- More room, or less of it, changes nothing that stands for the machine.
+  pub roomy_fields :
+      (calls : Vec (Option (OpenCall A)) A) (log : Log) (changed : ChangedSets) (rooms : Vec (Vec (Note A) A) A) → calls.items ≡ c.calls.items → log.records ≡ c.log.records →
+      changed.collecting ≡ c.changed.collecting → changed.frozen ≡ c.changed.frozen → IsCore (record c { calls = calls; log = log; changed = changed; rooms = rooms })
+  roomy_fields calls log changed rooms same_calls e f h = record {
     world = ok.world;
     run = ok.run;
     stands = record {
       catalog = ok.stands.catalog;
       opening = ok.stands.opening;
       log = ok.stands.log ∙ sym e;
-      calls = ok.stands.calls;
+      calls = λ s. subst (λ (l : List (Option (OpenCall A))). SameCall (slice_index_or l s None) (ok.world.calls s)) (sym same_calls) (ok.stands.calls s);
       versions = ok.stands.versions;
       collecting = λ q. ok.stands.collecting q ∙ ap (λ k. has k q) (sym f);
       frozen = λ q. ok.stands.frozen q ∙ ap (λ k. has k q) (sym h);
@@ -117,9 +117,9 @@ module _ {A : Type 0} where
     lawful = ok.lawful;
     opens = ok.opens;
     small = subst (IsSmall c.catalog (table_of c.opening)) (sym e) ok.small;
-    sessions = ok.sessions;
+    sessions = ap length same_calls ∙ ok.sessions;
     tables = ok.tables;
-    starts = ok.starts;
+    starts = ok.starts ∙ ap (map start_of) (sym same_calls);
     numbers = ok.numbers;
     last = λ s lt. ok.last s lt ∙ ap (last_number s) (sym e);
     aside =
@@ -127,33 +127,13 @@ module _ {A : Type 0} where
         (λ q is. ap (λ k. has k q || has changed.frozen q) f ∙ ap (λ k. has c.changed.collecting q || has k q) h ∙ is) (λ q is. is) ok.aside;
   }
 
-  pub roomy_view : (c : Inside A) (v : CoreView) → view_of c ≡ v → (log : Log) (changed : ChangedSets) → log.records ≡ c.log.records → view_of (record c { log = log; changed = changed }) ≡ v
-  roomy_view c v same log changed e = ap (λ r. record (view_of c) { log = r }) e ∙ same
+  pub roomy_core :
+      (log : Log) (changed : ChangedSets) → log.records ≡ c.log.records → changed.collecting ≡ c.changed.collecting → changed.frozen ≡ c.changed.frozen → IsCore (record c { log = log; changed = changed })
+  roomy_core log changed = roomy_fields c.calls log changed c.rooms refl
 
-  -- nor do other rooms for notes
-  pub other_rooms : (c : Inside A) → IsCore c → (rooms : Vec (Vec (Note A) A) A) → IsCore (record c { rooms = rooms })
-  other_rooms c ok rooms = record {
-    world = ok.world;
-    run = ok.run;
-    stands = record {
-      catalog = ok.stands.catalog;
-      opening = ok.stands.opening;
-      log = ok.stands.log;
-      calls = ok.stands.calls;
-      versions = ok.stands.versions;
-      collecting = ok.stands.collecting;
-      frozen = ok.stands.frozen;
-      locks = ok.stands.locks;
-      phase = ok.stands.phase;
-      checkpoint = ok.stands.checkpoint;
-    };
-    lawful = ok.lawful;
-    opens = ok.opens;
-    small = ok.small;
-    sessions = ok.sessions;
-    tables = ok.tables;
-    starts = ok.starts;
-    numbers = ok.numbers;
-    last = ok.last;
-    aside = ok.aside;
-  }
+  pub other_rooms : (rooms : Vec (Vec (Note A) A) A) → IsCore (record c { rooms = rooms })
+  other_rooms rooms = roomy_fields c.calls c.log c.changed rooms refl refl refl refl
+
+pub roomy_view :
+    {A : Type 0} (c : Inside A) (v : CoreView) → view_of c ≡ v → (log : Log) (changed : ChangedSets) → log.records ≡ c.log.records → view_of (record c { log = log; changed = changed }) ≡ v
+roomy_view c v same log changed e = ap (λ r. record (view_of c) { log = r }) e ∙ same

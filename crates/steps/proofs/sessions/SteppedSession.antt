@@ -1,12 +1,12 @@
 -- A core after a step of a session, which may have no open call.
-use Rattle.std.proofs.Common.{◌≡◌, ℕ, ◌<◌, List, Option, Some, None, Ok, Err, OnOk, OnErr, IfOk, IfSome, Vec, map, option_map, length, slice_set, slice_index_or, inl, refl, sym, ap, ◌∙◌, subst}
+use Rattle.std.proofs.Common.{◌≡◌, ℕ, ◌<◌, List, Option, Some, None, Ok, Err, OnOk, OnErr, IfOk, IfSome, Vec, map, option_map, slice_set, slice_index_or, inl, refl, sym, ap, ◌∙◌, subst}
 use Rattle.std.specs.declared.result.Result.{Result}
 use Rattle.std.proofs.lemmas.List.{set-get_or}
 use Rattle.procedure.specs.Runs.{ended}
 use Rattle.procedure.specs.declared.limits.TheConstants.{INSTRUCTIONS}
 use Rattle.locktable.specs.Locks.{Locks}
 use Rattle.record_store.specs.Stores.{Slots}
-use Rattle.steps.specs.inside.CoreFields.{IsCore, SameCall, call_at, start_of, underway, view_of}
+use Rattle.steps.specs.inside.CoreFields.{IsCore, call_at, underway, view_of}
 use Rattle.steps.specs.inside.InstructionLocks.{StepsIn}
 use Rattle.steps.specs.CoreViews.{CoreView, OfOpen, Steps, front_of, one_more, stepped_as}
 use Rattle.steps.specs.Refusals.{Answers, step_refusal, unstepped}
@@ -15,39 +15,11 @@ use Rattle.steps.specs.declared.cores.Core.TheInside.{Inside}
 use Rattle.steps.specs.declared.errors.StepError.{StepError}
 use Rattle.steps.specs.declared.errors.StepError.TheVariants as refused
 use Rattle.steps.specs.declared.step.Stepped.{Stepped}
-use Rattle.steps.proofs.sessions.CallProgress.{going}
+use Rattle.steps.proofs.sessions.CallProgress.{going, roomy_fields}
 use Rattle.steps.proofs.sessions.EndedCall.{not_open}
 use Rattle.steps.proofs.sessions.SteppedCall.{answered_core, answered_ready, answered_view, few, step_answers, unanswered_view}
 
 module _ {A : Type 0} (c : Inside A) (ok : IsCore c) where
-  -- the same calls in another vector
-  same_calls : (calls : Vec (Option (OpenCall A)) A) → calls.items ≡ c.calls.items → IsCore (record c { calls = calls })
-  same_calls calls e = record {
-    world = ok.world;
-    run = ok.run;
-    stands = record {
-      catalog = ok.stands.catalog;
-      opening = ok.stands.opening;
-      log = ok.stands.log;
-      calls = λ s. subst (λ (l : List (Option (OpenCall A))). SameCall (slice_index_or l s None) (ok.world.calls s)) (sym e) (ok.stands.calls s);
-      versions = ok.stands.versions;
-      collecting = ok.stands.collecting;
-      frozen = ok.stands.frozen;
-      locks = ok.stands.locks;
-      phase = ok.stands.phase;
-      checkpoint = ok.stands.checkpoint;
-    };
-    lawful = ok.lawful;
-    opens = ok.opens;
-    small = ok.small;
-    sessions = ap length e ∙ ok.sessions;
-    tables = ok.tables;
-    starts = ok.starts ∙ ap (map start_of) (sym e);
-    numbers = ok.numbers;
-    last = ok.last;
-    aside = ok.aside;
-  }
-
   few_in : (s : ℕ) (o : Option (OpenCall A)) → call_at c s ≡ o → IfSome o (λ k. ended k.machine.progress ≡ None → k.executed < INSTRUCTIONS)
   few_in s None is = tt
   few_in s (Some k) is = λ e. few c ok s k is (going k.machine.progress e)
@@ -71,7 +43,7 @@ module _ {A : Type 0} (c : Inside A) (ok : IsCore c) (s : ℕ) (calls : Vec (Opt
   core_by : (o p : Option (OpenCall A)) → call_at c s ≡ o → calls.items ≡ slice_set c.calls.items s p → In o p → IsCore after
   core_by None p is set x =
       subst (λ (t : Slots). IsCore (record c { calls = calls; store = t; locks = locks })) (sym x.0)
-      (subst (λ (m : Locks). IsCore (record c { calls = calls; locks = m })) (sym x.1) (same_calls c ok calls (unset p is x.2 set)))
+      (subst (λ (m : Locks). IsCore (record c { calls = calls; locks = m })) (sym x.1) (roomy_fields c ok calls c.log c.changed c.rooms (unset p is x.2 set) refl refl refl))
   core_by (Some k) None is set x = absurd x
   core_by (Some k) (Some d) is set x = answered_core c ok s k is d calls store locks set r x.ok x.granted x.err x.unlocked x.refusal
 

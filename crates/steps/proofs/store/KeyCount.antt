@@ -1,4 +1,4 @@
--- A table has at most as many keys as the store has records.
+-- A map from keys that have records has at most as many keys as the store has records.
 use Rattle.std.proofs.Common.{◌≡◌, ℕ, zero, suc, ◌+◌, ◌-◌, ◌<◌, ◌≤◌, ◌⊎◌, inl, inr, arith, Bool, true, false, cond, List, [], ◌∷◌, ◌++◌, length, reverse, Option, Some, None, is_some, option_map, slice_index_or, refl, sym, ap, ◌∙◌, subst, true≢false}
 use Rattle.std.proofs.lemmas.List.{take-append-le, take_all, length-append}
 use Rattle.std.proofs.lemmas.List.Sums.{sum_by-cons}
@@ -8,11 +8,12 @@ use Rattle.std.specs.FinMap as fin
 use Rattle.std.specs.Cmp.Lexicographic.{nat_list_cmp_total}
 use Rattle.procedure.specs.Bytes.{Bytes, Cell, same}
 use Rattle.procedure.specs.Procedures.{Procedure}
-use Rattle.procedure.specs.Table.{Table, change_at, no_table, value_at}
-use Rattle.procedure.proofs.Base.{keys, same_refl, same_table, value_at-no_table}
+use Rattle.procedure.specs.Table.{KeyMap, Table, change_at, value_at}
+use Rattle.procedure.proofs.Base.{keys, same_refl}
 use Rattle.image.proofs.Rising.{by_bytes}
 use Rattle.commitlog.specs.Histories as log
 use Rattle.commitlog.specs.Records.{Record}
+use Rattle.record_store.proofs.Versions.{version_of-new}
 use Rattle.record_store.specs.Stores as store
 use Rattle.record_store.specs.Versions as stored
 use Rattle.record_store.specs.declared.limits.TheConstants.{STORE_RECORDS}
@@ -25,54 +26,46 @@ use Rattle.steps.specs.declared.calls.OpenCall.{OpenCall}
 use Rattle.steps.proofs.log.OldestFirst.{after-reverse}
 use Rattle.steps.proofs.machine.OpenCalls.{none_some}
 
--- THE KEYS OF A TABLE, EACH WITH A RECORD
+-- KEYS, EACH WITH A RECORD
 
-has_version : store.Slots → Bytes → Bool
-has_version slots q = is_some (stored.version_of slots q)
-
-version_of-new : (q : Bytes) → stored.version_of [] q ≡ None
-unfolding stored.version_of
-version_of-new q = refl
-
-pub version_of-vacant : (slots : store.Slots) (q : Bytes) → stored.version_of (None ∷ slots) q ≡ stored.version_of slots q
+version_of-vacant : (slots : store.Slots) (q : Bytes) → stored.version_of (None ∷ slots) q ≡ stored.version_of slots q
 unfolding stored.version_of
 version_of-vacant slots q = refl
 
-pub version_of-other : (r : store.StoreRecord) (slots : store.Slots) (q : Bytes) → same q r.key ≡ false → stored.version_of (Some r ∷ slots) q ≡ stored.version_of slots q
+version_of-other : (r : store.StoreRecord) (slots : store.Slots) (q : Bytes) → same q r.key ≡ false → stored.version_of (Some r ∷ slots) q ≡ stored.version_of slots q
 unfolding stored.version_of
 version_of-other r slots q e = ap (λ b. cond b (Some (stored.version r)) (stored.version_of slots q)) e
 
-absent : (x : Cell) → (is_some x ≡ true → ⊥) → x ≡ None
+absent : {X : Type 0} (o : Option X) → (is_some o ≡ true → ⊥) → o ≡ None
 absent None f = refl
-absent (Some v) f = absurd (f refl)
-
-len-no_table : fin.len no_table ≡ 0
-unfolding no_table
-len-no_table = fin.len-empty by_bytes Bytes
+absent (Some x) f = absurd (f refl)
 
 pub same_is : (q k : Bytes) → same q k ≡ eq_by_cmp by_bytes q k
 unfolding same
 same_is q k = refl
 
-pub at_most_one : (b : Bool) (n m k : ℕ) → n ≡ cond b (m - 1) m → n ≤ k → m ≤ 1 + k
+at_most_one : (b : Bool) (n m k : ℕ) → n ≡ cond b (m - 1) m → n ≤ k → m ≤ 1 + k
 at_most_one true n m k e le = omega (arith, e, le)
 at_most_one false n m k e le = omega (arith, e, le)
 
-pub few_keys : (slots : store.Slots) (t : Table) → ((q : Bytes) → is_some (value_at t q) ≡ true → is_some (stored.version_of slots q) ≡ true) → fin.len t ≤ store.records slots
-few_keys [] t f =
-    let none : t ≡ no_table = same_table t no_table (λ q. absent (value_at t q) (λ e. true≢false (sym (f q e) ∙ ap is_some (version_of-new q))) ∙ sym (value_at-no_table q)) in
-    subst (λ n. n ≤ 0) (sym (ap fin.len none ∙ len-no_table)) (omega arith)
-few_keys (None ∷ slots) t f = few_keys slots t (λ q e. sym (ap is_some (version_of-vacant slots q)) ∙ f q e)
-few_keys (Some r ∷ slots) t f =
-    let less = few_keys slots (fin.remove t r.key) (λ q e. elim (keys q r.key) [
+-- no more keys than records
+pub few_keys : {V : Type 0} (slots : store.Slots) (m : KeyMap V) → ((q : Bytes) → is_some (fin.get m q) ≡ true → is_some (stored.version_of slots q) ≡ true) → fin.len m ≤ store.records slots
+few_keys {V} [] m f =
+    let none : m ≡ fin.empty =
+    fin.same_map nat_list_cmp_total (fin.slice_cmp-IsAntisymmetric fin.nat_cmp-IsAntisymmetric) m fin.empty
+    (λ q. absent (fin.get m q) (λ e. true≢false (sym (f q e) ∙ ap is_some (version_of-new q))) ∙ sym (fin.get-empty by_bytes q)) in
+    subst (λ n. n ≤ 0) (sym (ap fin.len none ∙ fin.len-empty by_bytes V)) (omega arith)
+few_keys (None ∷ slots) m f = few_keys slots m (λ q e. sym (ap is_some (version_of-vacant slots q)) ∙ f q e)
+few_keys (Some r ∷ slots) m f =
+    let less = few_keys slots (fin.remove m r.key) (λ q e. elim (keys q r.key) [
       | inl is ↦
           absurd
-          (true≢false (sym e ∙ ap is_some (fin.get-remove nat_list_cmp_total t r.key q ∙ ap (λ b. cond b None (value_at t q)) (sym (same_is q r.key) ∙ ap (λ k. same k r.key) is ∙ same_refl r.key))))
+          (true≢false (sym e ∙ ap is_some (fin.get-remove nat_list_cmp_total m r.key q ∙ ap (λ b. cond b None (fin.get m q)) (sym (same_is q r.key) ∙ ap (λ k. same k r.key) is ∙ same_refl r.key))))
       | inr n ↦
-          sym (ap is_some (version_of-other r slots q n)) ∙ f q (sym (ap is_some (fin.get-remove nat_list_cmp_total t r.key q ∙ ap (λ b. cond b None (value_at t q)) (sym (same_is q r.key) ∙ n))) ∙ e)
+          sym (ap is_some (version_of-other r slots q n)) ∙ f q (sym (ap is_some (fin.get-remove nat_list_cmp_total m r.key q ∙ ap (λ b. cond b None (fin.get m q)) (sym (same_is q r.key) ∙ n))) ∙ e)
     ]) in
-    subst (λ n. fin.len t ≤ n) (sym (sum_by-cons (λ (o : Option store.StoreRecord). cond (is_some o) 1 0) (Some r) slots))
-    (at_most_one (fin.contains_key t r.key) (fin.len (fin.remove t r.key)) (fin.len t) (store.records slots) (fin.len-remove nat_list_cmp_total t r.key) less)
+    subst (λ n. fin.len m ≤ n) (sym (sum_by-cons (λ (o : Option store.StoreRecord). cond (is_some o) 1 0) (Some r) slots))
+    (at_most_one (fin.contains_key m r.key) (fin.len (fin.remove m r.key)) (fin.len m) (store.records slots) (fin.len-remove nat_list_cmp_total m r.key) less)
 
 -- EACH KEY OF THE TABLE NOW HAS A RECORD
 

@@ -33,12 +33,12 @@ use Rattle.record_store.specs.Stores.{records}
 use Rattle.record_store.specs.declared.limits.TheConstants.{STORE_RECORDS}
 use Rattle.steps.specs.CoreViews.{CheckpointView, IsSmall}
 use Rattle.steps.proofs.machine.CallInvariant.{initial_good}
-use Rattle.steps.proofs.store.KeyCount.{small_none, small_now}
+use Rattle.steps.proofs.store.KeyCount.{same_is, small_none, small_now}
 use Rattle.steps.specs.machine.NewestFirst.{history_table}
 use Rattle.steps.specs.Versions.{key_versions, versions_in, KeyVersions, VersionsByKey, opened_versions, wrote}
 use Rattle.steps.specs.Openings.{IsOpened, no_checkpoint}
 use Rattle.steps.specs.inside.RecordEdits.{opened_with, with_opened}
-use Rattle.steps.specs.machine.Machine.{Runs, initial}
+use Rattle.steps.specs.machine.Machine.{initial}
 use Rattle.steps.specs.machine.Machine as machine
 use Rattle.steps.specs.declared.calls.OpenCall.{OpenCall}
 use Rattle.steps.specs.declared.cores.Core.TheInside.{Inside}
@@ -55,10 +55,6 @@ same_opened vs us (x ∷ es) e q =
 abbrev found_or : Option Cell → Option KeyVersions → Option KeyVersions
 found_or None v = v
 found_or (Some x) v = Some (record { live = x; stable = None; available = false })
-
-same_is : (q k : Bytes) → same q k ≡ eq_by_cmp by_bytes q k
-unfolding same
-same_is q k = refl
 
 -- none of the entries' keys has a version
 abbrev pub Lacks : VersionsByKey → List Entry → Type 0
