@@ -5,14 +5,12 @@ ghost use Rattle.phase.specs.declared.phases.Phase.TheVariants.{Capture, Resolve
 ghost use Rattle.procedure.specs.Bytes.{Bytes};
 ghost use Rattle.commitlog.specs.Histories.{phase_of};
 ghost use Rattle.record_store.specs.Stores.{changed, key_at, record_at};
-ghost use Rattle.steps.specs.inside.SetAside.{aside_at};
-ghost use Rattle.steps.specs.Checkpointing.{AdvancesTo, CapturesAs, visited};
-ghost use Rattle.steps.specs.CoreViews.{SameKeys};
+ghost use Rattle.steps.specs.Checkpointing.{AdvancesTo, CapturesAs};
 ghost use Rattle.steps.specs.inside.RecordEdits.{IsFound, captured, edited, given_by};
 ghost use Rattle.steps.specs.Versions.{given_of, is_kept, kept_of, versions_in};
 ghost use Rattle.steps.specs.Refusals.{Answers, advance_refusal, capture_refusal};
 ghost use Rattle.steps.specs.inside.CheckpointFields.{places, spots};
-ghost use Rattle.steps.specs.inside.Spots.{key_of_spot};
+ghost use Rattle.steps.specs.inside.Spots.{VisitsKey, key_of_spot};
 ghost use Rattle.steps.specs.declared.errors.CaptureError.TheVariants as capturing;
 
 use crate::checkpointing::push_token;
@@ -161,10 +159,7 @@ fn visit<A: Allocator + Clone>(
     spot: Option<Spot>,
 ) -> Result<Option<Entry<A>>, NoMemory>
     requires { IfSome spot (λ s. IsFound store.old s.key s.slot) }
-    ensures slots { OnOk result (length store.new ≡ length store.old) }
-    ensures keys { OnOk result (SameKeys store.old store.new) }
-    ensures aside { OnOk result ((slot : ℕ) → aside_at store.new slot ≡ aside_at store.old slot) }
-    ensures versions { OnOk result ((q : Bytes) → versions_in store.new q ≡ visited (key_of_spot spot) q (versions_in store.old q)) }
+    ensures visits { OnOk result (VisitsKey store.old store.new (key_of_spot spot)) }
     ensures given { IfOk result (λ given. given ≡ given_of (versions_in store.old) (key_of_spot spot)) }
     ensures err { OnErr result (store.new ≡ store.old) }
 {

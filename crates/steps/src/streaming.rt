@@ -5,12 +5,10 @@ ghost use Rattle.procedure.specs.Bytes.{Bytes};
 ghost use Rattle.image.specs.declared.limits.TheConstants.{ENTRIES};
 ghost use Rattle.pipe.specs.Rings.{SameTap, room};
 ghost use Rattle.record_store.specs.Stores.{changed, key_at, record_at};
-ghost use Rattle.steps.specs.inside.SetAside.{aside_at};
 ghost use Rattle.steps.specs.inside.RecordEdits.{IsFound, available_at, captured, edited, given_by};
 ghost use Rattle.steps.specs.inside.Sends.{IsRefused, IsSent, SendsNothing};
-ghost use Rattle.steps.specs.inside.Spots.{key_of_spot};
-ghost use Rattle.steps.specs.Checkpointing.{CapturesAs, visited};
-ghost use Rattle.steps.specs.CoreViews.{SameKeys};
+ghost use Rattle.steps.specs.inside.Spots.{VisitsKey, key_of_spot};
+ghost use Rattle.steps.specs.Checkpointing.{CapturesAs};
 ghost use Rattle.steps.specs.Streaming.{AnswersTo, GivesOne, MayBeFull, SendsGiven};
 ghost use Rattle.steps.specs.Versions.{given_of, kept_of, versions_in};
 
@@ -55,42 +53,9 @@ fn send_kept<A: Allocator>(
     Ok(())
 }
 
-/// Sends the stable version of a record that is available, by move. Where the ring is full it is put
-/// back.
-fn send_stable<A: Allocator>(
-    store: &mut Store<A>,
-    slot: usize,
-    key: Key,
-    tap: &mut Tap<A>,
-    given: &mut Given<Entry<A>>,
-    tally: &mut Tally,
-    kind: Kind,
-) -> Result<(), CaptureToError>
-    requires few { tally.old.count ≤ ENTRIES }
-    requires key { key_at store.old slot ≡ Some key }
-    requires available { available_at store.old slot ≡ true }
-    ensures ok { OnOk result (store.new ≡ changed (edited captured) store.old slot) }
-    ensures err { OnErr result (store.new ≡ store.old) }
-    ensures ring { SameTap tap.old tap.new }
-    ensures sent { OnOk result (IsSent (kept_of kind (given_by (record_at store.old slot))) tap.old tap.new given.old given.new tally.old tally.new) }
-    ensures room { OnOk result (room tap.old ≤ room tap.new + 1) }
-    ensures refused { OnErr result (SendsNothing tap.old tap.new given.old given.new tally.old tally.new) }
-    ensures why { IfErr result (IsRefused kind (given_by (record_at store.old slot)) tap.old) }
-{
-    match store.take_stable(slot) {
-        Stable::Empty => Ok(()),
-        Stable::Was(cell) => match send_kept(tap, given, tally, kind, Entry { key, cell }) {
-            Ok(()) => Ok(()),
-            Err(Full(entry)) => {
-                store.put_stable(slot, entry.cell);
-                Err(CaptureToError::RingFull)
-            }
-        },
-    }
-}
-
 /// Visits the record in a slot, and sends what it held at the cut: its stable version where it is
-/// available, and else a copy of the live one. All memory is taken first.
+/// available, and else a copy of the live one. All memory is taken first, and where the ring is full a
+/// stable version is put back.
 fn send_slot<A: Allocator + Clone>(
     store: &mut Store<A>,
     slot: usize,
@@ -116,7 +81,16 @@ fn send_slot<A: Allocator + Clone>(
                 available: true,
                 ..
             },
-        ) => send_stable(store, slot, key, tap, given, tally, kind),
+        ) => match store.take_stable(slot) {
+            Stable::Empty => Ok(()),
+            Stable::Was(cell) => match send_kept(tap, given, tally, kind, Entry { key, cell }) {
+                Ok(()) => Ok(()),
+                Err(Full(entry)) => {
+                    store.put_stable(slot, entry.cell);
+                    Err(CaptureToError::RingFull)
+                }
+            },
+        },
         Some(Record { key, live, .. }) => {
             let cell = match copy_of(live) {
                 Ok(cell) => cell,
@@ -143,10 +117,7 @@ fn send_spot<A: Allocator + Clone>(
 ) -> Result<(), CaptureToError>
     requires found { IfSome spot (λ s. IsFound store.old s.key s.slot) }
     requires few { tally.old.count ≤ ENTRIES }
-    ensures slots { OnOk result (length store.new ≡ length store.old) }
-    ensures keys { OnOk result (SameKeys store.old store.new) }
-    ensures aside { OnOk result ((slot : ℕ) → aside_at store.new slot ≡ aside_at store.old slot) }
-    ensures versions { OnOk result ((q : Bytes) → versions_in store.new q ≡ visited (key_of_spot spot) q (versions_in store.old q)) }
+    ensures visits { OnOk result (VisitsKey store.old store.new (key_of_spot spot)) }
     ensures err { OnErr result (store.new ≡ store.old) }
     ensures ring { SameTap tap.old tap.new }
     ensures sent { OnOk result (IsSent (kept_of kind (given_of (versions_in store.old) (key_of_spot spot))) tap.old tap.new given.old given.new tally.old tally.new) }

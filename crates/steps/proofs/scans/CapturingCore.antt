@@ -6,8 +6,7 @@ use Rattle.procedure.specs.Bytes.{Bytes, Cell, same}
 use Rattle.procedure.specs.Runs.{with_key}
 use Rattle.procedure.specs.Table.{Changes, change_at, no_changes, value_at}
 use Rattle.procedure.proofs.Base.{keys, same_refl}
-use Rattle.phase.specs.declared.phases.Phase.{Phase}
-use Rattle.phase.specs.declared.phases.Phase.TheVariants.{Rest, Prepare, Resolve, Capture, Complete}
+use Rattle.phase.specs.declared.phases.Phase.TheVariants.{Resolve, Capture}
 use Rattle.commitlog.specs.Logs.{Log}
 use Rattle.commitlog.specs.Records.{Token}
 use Rattle.image.specs.Headers.{EachKeyOnce as Once, chain_digest, linked, linked_all, map_of}
@@ -17,11 +16,11 @@ use Rattle.image.specs.declared.images.Kind.TheVariants.{Full, Partial}
 use Rattle.record_store.specs.ChangedSets.{has}
 use Rattle.record_store.specs.Stores.{HasKeysOnce, Slots}
 use Rattle.steps.proofs.reclaim.SetAside.{aside_kept}
-use Rattle.steps.specs.inside.SetAside.{aside_at}
+use Rattle.steps.specs.inside.Spots.{VisitsKey}
 use Rattle.steps.specs.machine.NewestFirst.{at, before}
 use Rattle.steps.specs.Checkpointing.{AdvancesTo, CapturesAs, EndsAt, VisitsNext, entered, visited}
 use Rattle.steps.specs.inside.CoreFields.{IsCore, view_of, either}
-use Rattle.steps.specs.CoreViews.{CoreView, SameKeys}
+use Rattle.steps.specs.CoreViews.{CoreView}
 use Rattle.steps.specs.inside.RecordEdits.{KeepsSlots}
 use Rattle.steps.specs.Versions.{given_at, given_of, kept_of, versions_in, KeyVersions, VersionsByKey, gives}
 use Rattle.steps.specs.machine.Invariant.{ScanKeeps, ScanKeepsIn}
@@ -170,10 +169,7 @@ module _ {A : Type 0} (c : Inside A) (ok : IsCore c) (store : Slots) (kept : Vec
     pub left : c.checkpoint.cursor ≢ c.checkpoint.bound
     pub key_is : key ≡ spot c.checkpoint.cursor
     pub once : IsSome key → HasKeysOnce c.store
-    pub slots : length store ≡ length c.store
-    pub keys : SameKeys c.store store
-    pub aside : (slot : ℕ) → aside_at store slot ≡ aside_at c.store slot
-    pub versions : (q : Bytes) → versions_in store q ≡ visited key q (versions_in c.store q)
+    pub visits : VisitsKey c.store store key
     pub given_is : given.entries ≡ c.checkpoint.given.entries ++ new_entries
     pub captured : c.checkpoint.way ≡ Whole → kept.items ≡ given.entries
     pub count : c.checkpoint.way ≡ Streamed → tally.count ≡ length given.entries
@@ -182,20 +178,15 @@ module _ {A : Type 0} (c : Inside A) (ok : IsCore c) (store : Slots) (kept : Vec
   -- in a list that had been given room
   pub visit_by :
       (roomy : List (Bytes × Cell)) (held : Option (Bytes × Cell)) → c.checkpoint.way ≡ Whole → c.phase ≡ Capture → c.checkpoint.cursor ≢ c.checkpoint.bound → key ≡ spot c.checkpoint.cursor →
-      (IsSome key → HasKeysOnce c.store) →
-      length store ≡ length c.store → SameKeys c.store store → ((slot : ℕ) → aside_at store slot ≡ aside_at c.store slot) →
-      ((q : Bytes) → versions_in store q ≡ visited key q (versions_in c.store q)) →
+      (IsSome key → HasKeysOnce c.store) → VisitsKey c.store store key →
       kept.items ≡ roomy ++ kept_of c.checkpoint.kind held → given.entries ≡ c.checkpoint.given.entries ++ kept_of c.checkpoint.kind held → roomy ≡ c.checkpoint.captured.items →
       held ≡ given_of (versions_in c.store) key → IsVisit
-  visit_by roomy held whole phase left key_is once slots keys aside versions kept_is given_is same_items held_is = record {
+  visit_by roomy held whole phase left key_is once visits kept_is given_is same_items held_is = record {
     phase = phase;
     left = left;
     key_is = key_is;
     once = once;
-    slots = slots;
-    keys = keys;
-    aside = aside;
-    versions = versions;
+    visits = visits;
     given_is = given_is ∙ ap (λ o. c.checkpoint.given.entries ++ kept_of c.checkpoint.kind o) held_is;
     captured = λ way.
         kept_is ∙ ap (λ l. l ++ kept_of c.checkpoint.kind held) (same_items ∙ (scan_here c ok phase).captured whole) ∙ sym given_is;
@@ -206,19 +197,13 @@ module _ {A : Type 0} (c : Inside A) (ok : IsCore c) (store : Slots) (kept : Vec
   -- into a ring
   pub visit_to :
       {tap after : Tap A} → c.checkpoint.way ≡ Streamed → c.phase ≡ Capture → c.checkpoint.cursor ≢ c.checkpoint.bound → key ≡ spot c.checkpoint.cursor →
-      (IsSome key → HasKeysOnce c.store) →
-      length store ≡ length c.store → SameKeys c.store store → ((slot : ℕ) → aside_at store slot ≡ aside_at c.store slot) →
-      ((q : Bytes) → versions_in store q ≡ visited key q (versions_in c.store q)) →
-      IsSent new_entries tap after c.checkpoint.given given c.checkpoint.tally tally → IsVisit
-  visit_to streamed phase left key_is once slots keys aside versions sent = record {
+      (IsSome key → HasKeysOnce c.store) → VisitsKey c.store store key → IsSent new_entries tap after c.checkpoint.given given c.checkpoint.tally tally → IsVisit
+  visit_to streamed phase left key_is once visits sent = record {
     phase = phase;
     left = left;
     key_is = key_is;
     once = once;
-    slots = slots;
-    keys = keys;
-    aside = aside;
-    versions = versions;
+    visits = visits;
     given_is = sent.gave;
     captured = λ way. absurd (let one : Streamed ≡ Whole = sym streamed ∙ way in cc);
     count = λ way.
@@ -239,7 +224,7 @@ module _ {A : Type 0} (c : Inside A) (ok : IsCore c) (store : Slots) (kept : Vec
     ]
 
     keeps_slots : KeepsSlots c.store store
-    keeps_slots = record { keys = λ slot q at. is.keys slot ∙ at; aside = λ slot so. sym (is.aside slot) ∙ so }
+    keeps_slots = record { keys = λ slot q at. is.visits.keys slot ∙ at; aside = λ slot so. sym (is.visits.aside slot) ∙ so }
 
     none_waits : c.checkpoint.header ≡ None
     none_waits = ok.stands.checkpoint.none_yet (ap is_unfinished (phase_here c ok is.phase))
@@ -252,7 +237,7 @@ module _ {A : Type 0} (c : Inside A) (ok : IsCore c) (store : Slots) (kept : Vec
         stored_core c ok store c.aside one_on vs all seen refl refl refl refl run versions
         (subst (λ p. ScansIn p one_on (spots c.checkpoint.kind store c.changed.frozen) seen ok.world.bound all)
         (sym (phase_here c ok is.phase))
-        (scan_kept Capture one_on spot (spots c.checkpoint.kind store c.changed.frozen) seen ok.world.bound all
+        (scan_kept Capture one_on kept spot (spots c.checkpoint.kind store c.changed.frozen) seen ok.world.bound all refl
         (spots_kept c.checkpoint.kind c.store store c.changed.frozen keeps_slots) scan))
         ok.stands.checkpoint.waits
         (λ h here. absurd (let no_header : None ≡ Some h = sym none_waits ∙ here in cc)) (λ unfinished. none_waits) (aside_kept c.aside c.store store (either c.changed) (either c.changed) c.locks c.locks keeps_slots (λ q e. e) (λ q e. e) ok.aside)
@@ -261,7 +246,7 @@ module _ {A : Type 0} (c : Inside A) (ok : IsCore c) (store : Slots) (kept : Vec
     vacant_core : key ≡ None → IsCore after_capture
     vacant_core none =
         core_as ok.world.versions ok.world.given ok.world.visited ok.run
-        (λ q. ok.stands.versions q ∙ sym (is.versions q ∙ ap (λ o. visited o q (versions_in c.store q)) none))
+        (λ q. ok.stands.versions q ∙ sym (is.visits.versions q ∙ ap (λ o. visited o q (versions_in c.store q)) none))
         (scan_on c.checkpoint kept given tally spot ok.world.visited ok.world.visited ok.world.bound ok.world.given ok.world.given key (scan_here c ok is.phase) (sym is.key_is) below
         (λ q seen. inl seen) (λ q seen. seen) (λ q here. absurd (let no : None ≡ Some q = sym none ∙ here in cc))
         ((scan_here c ok is.phase).gave ∙ ap map_of (sym same_entries)) (subst Once (sym same_entries) (scan_here c ok is.phase).once) is.captured is.count is.chain)
@@ -309,7 +294,7 @@ module _ {A : Type 0} (c : Inside A) (ok : IsCore c) (store : Slots) (kept : Vec
       visited_core : IsCore after_capture
       visited_core =
           core_as (visit ok.world k v).versions (visit ok.world k v).given (with_key k ok.world.visited) (more ok.run (Visits k v may))
-          (λ q. visited_as (versions_in c.store) ok.world.versions k v q ok.stands.versions found.1 ∙ sym (is.versions q ∙ ap (λ o. visited o q (versions_in c.store q)) here))
+          (λ q. visited_as (versions_in c.store) ok.world.versions k v q ok.stands.versions found.1 ∙ sym (is.visits.versions q ∙ ap (λ o. visited o q (versions_in c.store q)) here))
           (scan_on c.checkpoint kept given tally spot ok.world.visited (with_key k ok.world.visited) ok.world.bound ok.world.given (visit ok.world k v).given key (scan_here c ok is.phase) (sym is.key_is) below
           grown (λ q seen. or_right (same q k) (ok.world.visited q) seen) (λ q this. now q (same_Some (sym here ∙ this)))
           (given_more ok.world.kind k (ok.world.frozen k) (gives v) ok.world.given c.checkpoint.given.entries frozen_here (scan_here c ok is.phase).gave
@@ -344,33 +329,15 @@ module _ {A : Type 0} (c : Inside A) (ok : IsCore c) (store : Slots) (kept : Vec
           rest =
               ap (λ n. record (view_of c) { slots = store; checkpoint = record (view_of c).checkpoint { cursor = n; given = given.entries } }) one
               ∙ ap (λ l. record (view_of c) { slots = store; checkpoint = record (view_of c).checkpoint { cursor = suc c.checkpoint.cursor; given = l } }) is.given_is;
-          slots = is.slots;
-          keys = is.keys;
-          versions = is.versions;
+          slots = is.visits.slots;
+          keys = is.visits.keys;
+          versions = is.visits.versions;
         }
       where
         one : c.checkpoint.cursor + 1 ≡ suc c.checkpoint.cursor
         one = omega arith
 
 module _ {A : Type 0} where
-  scan_room :
-      (p : Phase) (k : Checkpoint A) (kept : Vec (Bytes × Cell) A) (spot : ℕ → Option Bytes) (seen wanted : Bytes → Bool) (given : Changes) → kept.items ≡ k.captured.items →
-      ScansIn p k spot seen wanted given → ScansIn p (record k { captured = kept }) spot seen wanted given
-  scan_room Capture k kept spot seen wanted given e scan = record {
-    visited = scan.visited;
-    to_visit = scan.to_visit;
-    within = scan.within;
-    gave = scan.gave;
-    once = scan.once;
-    captured = λ way. e ∙ scan.captured way;
-    count = scan.count;
-    chain = scan.chain;
-  }
-  scan_room Rest k kept spot seen wanted given e scan = tt
-  scan_room Prepare k kept spot seen wanted given e scan = tt
-  scan_room Resolve k kept spot seen wanted given e scan = tt
-  scan_room Complete k kept spot seen wanted given e scan = tt
-
   module _ (c : Inside A) (ok : IsCore c) (kept : Vec (Bytes × Cell) A) (same_items : kept.items ≡ c.checkpoint.captured.items) where
     abbrev with_room : Slots → Inside A
     with_room store = record c { store = store; checkpoint = record c.checkpoint { captured = kept } }
@@ -380,7 +347,7 @@ module _ {A : Type 0} where
     roomy_scan store e =
         subst (λ (s : Slots). IsCore (with_room s)) (sym e)
         (stored_core c ok c.store c.aside (record c.checkpoint { captured = kept }) ok.world.versions ok.world.given ok.world.visited refl refl refl refl ok.run ok.stands.versions
-        (scan_room ok.world.phase c.checkpoint kept _ ok.world.visited ok.world.bound ok.world.given same_items ok.stands.checkpoint.scan) ok.stands.checkpoint.waits ok.stands.checkpoint.heads
+        (scan_kept ok.world.phase c.checkpoint kept _ _ ok.world.visited ok.world.bound ok.world.given same_items (λ i q is. is) ok.stands.checkpoint.scan) ok.stands.checkpoint.waits ok.stands.checkpoint.heads
         ok.stands.checkpoint.none_yet ok.aside)
 
     pub roomy_scan_view : (v : CoreView) → view_of c ≡ v → (store : Slots) → store ≡ c.store → view_of (with_room store) ≡ v

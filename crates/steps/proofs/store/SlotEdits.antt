@@ -1,8 +1,8 @@
 -- Edits of a store's records keep each record in its slot, and so the scan that goes by the slots.
-use Rattle.std.proofs.Common.{◌≡◌, ℕ, Bool, List, Option, Some, None, option_map, inl, inr, refl, sym, ap, ◌∙◌, get_or-set_other, map, false, true, true≢false}
+use Rattle.std.proofs.Common.{◌≡◌, ℕ, Bool, List, Option, Some, None, option_map, inl, inr, refl, sym, ap, ◌∙◌, get_or-set_other, map, Vec, false, true, true≢false}
 use Rattle.std.proofs.Math.ListN.{get_or-map}
 use Rattle.std.proofs.lemmas.Bool.{cases_eq}
-use Rattle.procedure.specs.Bytes.{Bytes}
+use Rattle.procedure.specs.Bytes.{Bytes, Cell}
 use Rattle.procedure.specs.Table.{Changes}
 use Rattle.phase.specs.declared.phases.Phase.{Phase}
 use Rattle.phase.specs.declared.phases.Phase.TheVariants.{Rest, Prepare, Resolve, Capture, Complete}
@@ -117,24 +117,24 @@ spots_kept Full slots new frozen keeps i q is = keeps.keys i q is
 spots_kept Partial slots new frozen keeps i q is = is
 
 module _ {A : Type 0} where
-  -- the scan goes on, where each place keeps its key
+  -- the scan goes on, where each place keeps its key, and what was captured stands in another list
   pub scan_kept :
-      (p : Phase) (k : Checkpoint A) (spot next : ℕ → Option Bytes) (seen wanted : Bytes → Bool) (given : Changes) → ((i : ℕ) (q : Bytes) → spot i ≡ Some q → next i ≡ Some q) →
-      ScansIn p k spot seen wanted given → ScansIn p k next seen wanted given
-  scan_kept Capture k spot next seen wanted given keeps scan = record {
+      (p : Phase) (k : Checkpoint A) (list : Vec (Bytes × Cell) A) (spot next : ℕ → Option Bytes) (seen wanted : Bytes → Bool) (given : Changes) → list.items ≡ k.captured.items → ((i : ℕ) (q : Bytes) → spot i ≡ Some q → next i ≡ Some q) →
+      ScansIn p k spot seen wanted given → ScansIn p (record k { captured = list }) next seen wanted given
+  scan_kept Capture k list spot next seen wanted given e keeps scan = record {
     visited = λ q is. let (i, below, at) = scan.visited q is in (i, below, keeps i q at);
     to_visit = λ q is. let (i, below, at, then) = scan.to_visit q is in (i, below, keeps i q at, then);
     within = scan.within;
     gave = scan.gave;
     once = scan.once;
-    captured = scan.captured;
+    captured = λ way. e ∙ scan.captured way;
     count = scan.count;
     chain = scan.chain;
   }
-  scan_kept Rest k spot next seen wanted given keeps scan = tt
-  scan_kept Prepare k spot next seen wanted given keeps scan = tt
-  scan_kept Resolve k spot next seen wanted given keeps scan = tt
-  scan_kept Complete k spot next seen wanted given keeps scan = tt
+  scan_kept Rest k list spot next seen wanted given e keeps scan = tt
+  scan_kept Prepare k list spot next seen wanted given e keeps scan = tt
+  scan_kept Resolve k list spot next seen wanted given e keeps scan = tt
+  scan_kept Complete k list spot next seen wanted given e keeps scan = tt
 
   -- the checkpoint, where each place of its scan keeps its key and as many records stand before its cut
   pub tracked_kept :
@@ -145,7 +145,7 @@ module _ {A : Type 0} where
     finished = tracked.finished;
     kind = tracked.kind;
     place = λ cutting. e ∙ tracked.place cutting;
-    scan = scan_kept p k spot next seen wanted given keeps tracked.scan;
+    scan = scan_kept p k k.captured spot next seen wanted given refl keeps tracked.scan;
     waits = tracked.waits;
     heads = tracked.heads;
     none_yet = tracked.none_yet;

@@ -48,7 +48,7 @@ invariant_of-self-2 g c =
     (visit_by c.self.inside c.self.invariant c.visit.new.store c.keep.new.captured c.keep.new.given c.self.inside.checkpoint.tally (key_of_spot c.spot_at-spot.result)
     c.reserve.new.self.items c.in-Ok.held c.in-Whole.is c.in-Capture.is c.if-self.false
     c.spot_at-spot.ensures.key
-    (once_there c.self.inside.store c.spot_at-spot.result c.spot_at-spot.ensures.found) c.in-Ok.ensures.slots c.in-Ok.ensures.keys c.in-Ok.ensures.aside c.in-Ok.ensures.versions
+    (once_there c.self.inside.store c.spot_at-spot.result c.spot_at-spot.ensures.found) c.in-Ok.ensures.visits
     c.keep.ensures.captured c.keep.ensures.given c.reserve.ensures.items c.in-Ok.ensures.given))
 
 pub returns-clause-captured : goal.returns-clause-captured
@@ -57,7 +57,7 @@ returns-clause-captured g c =
     (visit_by c.self.inside c.self.invariant c.visit.new.store c.keep.new.captured c.keep.new.given c.self.inside.checkpoint.tally (key_of_spot c.spot_at-spot.result)
     c.reserve.new.self.items c.in-Ok.held c.in-Whole.is c.in-Capture.is c.if-self.false
     c.spot_at-spot.ensures.key
-    (once_there c.self.inside.store c.spot_at-spot.result c.spot_at-spot.ensures.found) c.in-Ok.ensures.slots c.in-Ok.ensures.keys c.in-Ok.ensures.aside c.in-Ok.ensures.versions
+    (once_there c.self.inside.store c.spot_at-spot.result c.spot_at-spot.ensures.found) c.in-Ok.ensures.visits
     c.keep.ensures.captured c.keep.ensures.given c.reserve.ensures.items c.in-Ok.ensures.given)
     c.args.self.now c.self.view_is
 

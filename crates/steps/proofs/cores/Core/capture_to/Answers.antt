@@ -51,16 +51,14 @@ invariant_of-self-2 g c =
     (capture_core c.self.inside c.self.invariant c.send_spot.new.store c.self.inside.checkpoint.captured c.send_spot.new.given c.send_spot.new.tally (key_of_spot c.spot_at-spot.result)
     (visit_to c.self.inside c.self.invariant c.send_spot.new.store c.self.inside.checkpoint.captured c.send_spot.new.given c.send_spot.new.tally (key_of_spot c.spot_at-spot.result)
     c.in-Streamed.is c.in-Capture.is
-    c.if-self.false c.spot_at-spot.ensures.key (once_there c.self.inside.store c.spot_at-spot.result c.spot_at-spot.ensures.found) c.in-Ok.ensures.slots c.in-Ok.ensures.keys
-    c.in-Ok.ensures.aside c.in-Ok.ensures.versions c.in-Ok.ensures.sent))
+    c.if-self.false c.spot_at-spot.ensures.key (once_there c.self.inside.store c.spot_at-spot.result c.spot_at-spot.ensures.found) c.in-Ok.ensures.visits c.in-Ok.ensures.sent))
 
 pub returns-clause-captured : goal.returns-clause-captured
 returns-clause-captured g c =
     capture_view c.self.inside c.self.invariant c.send_spot.new.store c.self.inside.checkpoint.captured c.send_spot.new.given c.send_spot.new.tally (key_of_spot c.spot_at-spot.result)
     (visit_to c.self.inside c.self.invariant c.send_spot.new.store c.self.inside.checkpoint.captured c.send_spot.new.given c.send_spot.new.tally (key_of_spot c.spot_at-spot.result)
     c.in-Streamed.is c.in-Capture.is
-    c.if-self.false c.spot_at-spot.ensures.key (once_there c.self.inside.store c.spot_at-spot.result c.spot_at-spot.ensures.found) c.in-Ok.ensures.slots c.in-Ok.ensures.keys
-    c.in-Ok.ensures.aside c.in-Ok.ensures.versions c.in-Ok.ensures.sent)
+    c.if-self.false c.spot_at-spot.ensures.key (once_there c.self.inside.store c.spot_at-spot.result c.spot_at-spot.ensures.found) c.in-Ok.ensures.visits c.in-Ok.ensures.sent)
     c.args.self.now c.self.view_is
 
 pub returns-clause-refusal : goal.returns-clause-refusal

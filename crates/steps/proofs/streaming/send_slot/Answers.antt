@@ -4,7 +4,7 @@ use Rattle.procedure.specs.Bytes.{Cell}
 use Rattle.record_store.specs.Stores.{Slots, changed, with_stable}
 use Rattle.record_store.specs.declared.records.Stable.TheVariants.{Was}
 use Rattle.steps.proofs.scans.SentEntries.{put_back}
-use Rattle.steps.proofs.streaming.send_stable.Goals as goal
+use Rattle.steps.proofs.streaming.send_slot.Goals as goal
 
 pub returns-in-Err-clause-err : goal.returns-in-Err-clause-err
 returns-in-Err-clause-err g c =
