@@ -152,7 +152,7 @@ impl<A: Allocator> Core<A> {
     fn is_scanning(&self) -> bool
         ensures { result ≡ is_scanning (phase_of self.now.log) self.now.checkpoint }
     {
-        match self.phase {
+        match self.phase() {
             Phase::Capture => self.checkpoint.cursor < self.checkpoint.bound,
             _ => false,
         }
@@ -288,7 +288,7 @@ impl<A: Allocator + Clone> Core<A> {
         ensures ok { OnOk result (AdvancesTo (successor (phase_of self.old.log)) self.old self.new) }
         ensures err { OnErr result (self.new ≡ self.old) }
     {
-        match self.phase {
+        match self.phase() {
             Phase::Rest => unreachable!(),
             Phase::Prepare => self.resolve(),
             Phase::Resolve => self.begin_scan(),
@@ -311,7 +311,7 @@ impl<A: Allocator + Clone> Core<A> {
         ensures refusal { Answers (advance_refusal self.old) advancing.NoMemory result }
     {
         self.may_advance()?;
-        let entered = self.phase.next();
+        let entered = self.phase().next();
         match self.enter_next() {
             Ok(()) => Ok(entered),
             Err(NoMemory) => Err(AdvanceError::NoMemory),

@@ -3,6 +3,7 @@ use Rattle.std.proofs.Common.{◌≡◌, ℕ, suc, ◌<◌, ◌≤◌, List, [],
 use Rattle.std.specs.FinMap as fin
 use Rattle.std.proofs.lemmas.List.{take_all}
 use Rattle.procedure.specs.declared.limits.TheConstants.{SESSIONS}
+use Rattle.procedure.specs.Bytes.{Bytes}
 use Rattle.phase.specs.declared.phases.Phase.{Phase}
 use Rattle.phase.specs.declared.phases.Phase.TheVariants.{Rest, Prepare, Resolve, Capture, Complete}
 use Rattle.commitlog.proofs.Histories.{after-push, last_number-push}
@@ -12,15 +13,17 @@ use Rattle.commitlog.specs.Logs.{Log}
 use Rattle.commitlog.specs.Records.{Record, Token, Call}
 use Rattle.image.specs.Merges.{table_of}
 use Rattle.record_store.specs.declared.limits.TheConstants.{STORE_RECORDS}
-use Rattle.steps.specs.machine.NewestFirst.{IsCyclicHistory, history_number, history_phase}
-use Rattle.record_store.specs.ChangedSets.{ChangedSets}
+use Rattle.steps.specs.machine.NewestFirst.{IsCyclicHistory, before, history_number, history_phase}
+use Rattle.record_store.specs.ChangedSets.{ChangedSets, has}
 use Rattle.record_store.specs.Stores.{Slots}
-use Rattle.steps.specs.inside.CoreFields.{IsCore, StandsFor, either, view_of}
+use Rattle.steps.specs.inside.CheckpointFields.{IsTracked, spots}
+use Rattle.steps.specs.inside.CoreFields.{IsCore, SameCall, call_at, either, mode_held, view_of}
 use Rattle.steps.specs.inside.SetAside.{AsideIn}
-use Rattle.steps.specs.machine.Machine.{Runs, State, initial}
+use Rattle.steps.specs.machine.Machine.{CallsBySession, Runs, State, initial}
 use Rattle.steps.specs.declared.checkpoints.Checkpoint.{Checkpoint}
 use Rattle.steps.specs.declared.reclaiming.Aside.{Aside}
 use Rattle.steps.specs.CoreViews.{CoreView, IsSmall}
+use Rattle.steps.specs.Versions.{versions_in}
 use Rattle.steps.specs.declared.cores.Core.TheInside.{Inside}
 use Rattle.steps.proofs.log.OldestFirst.{length-reverse, number_of-reverse, reverse_push}
 use Rattle.steps.proofs.sessions.CallProgress.{roomy_core, roomy_view}
@@ -74,15 +77,31 @@ module _ {A : Type 0} (c : Inside A) (ok : IsCore c) where
     pub token_last : (s : ℕ) → s < SESSIONS → slice_index_or c.last.items s None ≡ last_number s records
     token_last s lt = ok.last s lt ∙ sym (ap (last_number s) log_is ∙ last_number-push s c.log.records (Token p n))
 
+    -- a state of the machine after that token, with the same calls
+    abbrev pub IsAfterToken : State → Type 0
+    IsAfterToken w = (w.catalog ≡ ok.world.catalog) × (w.opening ≡ ok.world.opening) × (w.log ≡ Token p n ∷ ok.world.log) × (w.calls ≡ ok.world.calls) × (w.phase ≡ p)
+
     -- the core in the phase of that token, by the machine's state
     pub token_core :
-        (log : Log) → log.records ≡ records → (store : Slots) (changed : ChangedSets) (checkpoint : Checkpoint A) (aside : Aside) (w : State) → Runs (initial c.catalog (table_of c.opening)) w →
-        StandsFor (record c { log = log; store = store; changed = changed; checkpoint = checkpoint; aside = aside; phase = p }) w → AsideIn aside store (either changed) c.locks →
-        IsCore (record c { log = log; store = store; changed = changed; checkpoint = checkpoint; aside = aside; phase = p })
-    token_core log is store changed checkpoint aside w run stands reasons = record {
+        (log : Log) → log.records ≡ records → (store : Slots) (changed : ChangedSets) (checkpoint : Checkpoint A) (aside : Aside) (w : State) → IsAfterToken w → Runs (initial c.catalog (table_of c.opening)) w →
+        ((q : Bytes) → w.versions q ≡ versions_in store q) → ((q : Bytes) → w.collecting q ≡ has changed.collecting q) → ((q : Bytes) → w.frozen q ≡ has changed.frozen q) →
+        IsTracked checkpoint (spots checkpoint.kind store changed.frozen) w.phase w.number w.finished w.kind (length (before w.number w.log)) w.visited w.bound w.given w.images →
+        AsideIn aside store (either changed) c.locks → IsCore (record c { log = log; store = store; changed = changed; checkpoint = checkpoint; aside = aside; phase = p })
+    token_core log is store changed checkpoint aside w (catalog, opening, entered, calls, phase) run versions collecting frozen tracked reasons = record {
       world = w;
       run = run;
-      stands = stands;
+      stands = record {
+        catalog = catalog ∙ ok.stands.catalog;
+        opening = opening ∙ ok.stands.opening;
+        log = ap reverse entered ∙ token_log ∙ sym is;
+        calls = λ s. subst (λ (l : CallsBySession). SameCall (call_at c s) (l s)) (sym calls) (ok.stands.calls s);
+        versions = versions;
+        collecting = collecting;
+        frozen = frozen;
+        locks = λ s q. ok.stands.locks s q ∙ ap (λ (l : CallsBySession). mode_held (l s) q) (sym calls);
+        phase = phase;
+        checkpoint = tracked;
+      };
       lawful = ok.lawful;
       opens = ok.opens;
       small = subst (IsSmall c.catalog (table_of c.opening)) (sym is) token_small;

@@ -1,17 +1,15 @@
 -- When a phase may be left, by the start phases and by the view.
-use Rattle.std.proofs.Common.{◌≡◌, Ok, Err, IsOk, OnOk, is_err, ℕ, zero, suc, Bool, true, false, not, ◌||◌, List, [], ◌∷◌, Option, Some, None, map, option_map, refl, sym, ap, ◌∙◌, subst, true≢false}
+use Rattle.std.proofs.Common.{◌≡◌, Ok, Err, IsOk, is_err, ℕ, zero, suc, Bool, true, false, not, ◌||◌, List, [], ◌∷◌, Option, Some, None, map, option_map, refl, sym, ap, ◌∙◌, subst, true≢false}
 use Rattle.std.specs.Prelude.{◌==◌}
 use Rattle.std.specs.Option.{option_or}
 use Rattle.std.specs.declared.result.Result.{Result}
 use Rattle.std.proofs.lemmas.Bool.{eqb-true, eq-eqb}
-use Rattle.procedure.specs.declared.memory.NoMemory.{NoMemory}
-use Rattle.phase.specs.Phases.{AllStartedIn, MayLeave, successor}
+use Rattle.phase.specs.Phases.{AllStartedIn, MayLeave}
 use Rattle.phase.specs.declared.phases.Phase.{Phase}
 use Rattle.phase.specs.declared.phases.Phase.TheVariants.{Rest, Prepare, Resolve, Capture, Complete}
 use Rattle.commitlog.specs.Histories.{phase_of}
 use Rattle.steps.specs.inside.CoreFields.{IsCore, SameCall, call_at, start_of, underway, view_of}
 use Rattle.steps.specs.CoreViews.{CoreView, Underway, any_open}
-use Rattle.steps.specs.Checkpointing.{AdvancesTo}
 use Rattle.steps.specs.Refusals.{advance_refusal, is_held, is_log_full, is_rest, is_scanning, rank, started_elsewhere, refused_unless}
 use Rattle.steps.specs.machine.Machine.{AllStarted, Open}
 use Rattle.steps.specs.declared.calls.OpenCall.{OpenCall}
@@ -177,12 +175,3 @@ never_ok (Err x) e is = let no_ok = is in absurd (cc)
 pub surely_ok : {X E : Type 0} (r : Result X E) → is_err r ≡ false → IsOk r
 surely_ok (Ok x) e = refl
 surely_ok (Err x) e = absurd (true≢false e)
-
-pub phase_seen : {A : Type 0} (c : Inside A) → IsCore c → (v : CoreView) → view_of c ≡ v → (p : Phase) → c.phase ≡ p → phase_of v.log ≡ p
-phase_seen c ok v same p e = sym (phase_is c ok ∙ ap (λ (w : CoreView). phase_of w.log) same) ∙ e
-
--- the phase that was entered follows that of the log
-pub enters_next :
-    {A : Type 0} (c : Inside A) → IsCore c → (v : CoreView) → view_of c ≡ v → (p : Phase) → c.phase ≡ p →
-    (new : CoreView) (r : Result (Unit {0}) NoMemory) → OnOk r (AdvancesTo (successor p) v new) → OnOk r (AdvancesTo (successor (phase_of v.log)) v new)
-enters_next c ok v same p e new r done = subst (λ q. OnOk r (AdvancesTo (successor q) v new)) (sym (phase_seen c ok v same p e)) done

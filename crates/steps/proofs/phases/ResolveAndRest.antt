@@ -26,7 +26,7 @@ use Rattle.steps.specs.Refusals.{is_cutting, is_held}
 use Rattle.steps.specs.inside.CheckpointFields.{is_unfinished}
 use Rattle.steps.specs.machine.Machine.{Resolves, Rests, cleaned_versions, more, resolve, rest}
 use Rattle.steps.specs.declared.cores.Core.TheInside.{Inside}
-use Rattle.steps.proofs.phases.AddedToken.{number_is, token_log, token_core}
+use Rattle.steps.proofs.phases.AddedToken.{number_is, token_core}
 use Rattle.steps.proofs.log.OldestFirst.{length-reverse}
 use Rattle.steps.proofs.phases.PhaseEnds.{all_started}
 use Rattle.steps.proofs.views.CoreState.{good}
@@ -85,28 +85,18 @@ module _ {A : Type 0} (c : Inside A) (ok : IsCore c) (log : Log) where
 
     pub resolve_core : IsCore after_resolve
     resolve_core =
-        token_core c ok Resolve ok.world.number log.records (number_here Resolve log_is) log refl c.store changed (record c.checkpoint { place = place }) c.aside (resolve ok.world)
+        token_core c ok Resolve ok.world.number log.records (number_here Resolve log_is) log refl c.store changed (record c.checkpoint { place = place }) c.aside (resolve ok.world) (refl, refl, refl, refl, refl)
         (more ok.run (Resolves (ok.stands.phase ∙ phase_is) (all_started c ok Prepare free)))
+        ok.stands.versions (λ q. sym (ap (λ (s : KeySet). has s q) collecting ∙ none_in_empty q)) (λ q. ok.stands.collecting q ∙ ap (λ (s : KeySet). has s q) (sym frozen))
         record {
-          catalog = ok.stands.catalog;
-          opening = ok.stands.opening;
-          log = token_log c ok Resolve ok.world.number log.records (number_here Resolve log_is);
-          calls = ok.stands.calls;
-          versions = ok.stands.versions;
-          collecting = λ q. sym (ap (λ (s : KeySet). has s q) collecting ∙ none_in_empty q);
-          frozen = λ q. ok.stands.collecting q ∙ ap (λ (s : KeySet). has s q) (sym frozen);
-          locks = ok.stands.locks;
-          phase = refl;
-          checkpoint = record {
-            number = ok.stands.checkpoint.number;
-            finished = ok.stands.checkpoint.finished;
-            kind = ok.stands.checkpoint.kind;
-            place = λ cutting. ap length (before_here ok.world.number ok.world.log) ∙ sym (length-reverse ok.world.log) ∙ ap length ok.stands.log ∙ sym place_is;
-            scan = tt;
-            waits = ok.stands.checkpoint.waits;
-            heads = ok.stands.checkpoint.heads;
-            none_yet = λ unfinished. ok.stands.checkpoint.none_yet (ap is_unfinished (ok.stands.phase ∙ phase_is));
-          };
+          number = ok.stands.checkpoint.number;
+          finished = ok.stands.checkpoint.finished;
+          kind = ok.stands.checkpoint.kind;
+          place = λ cutting. ap length (before_here ok.world.number ok.world.log) ∙ sym (length-reverse ok.world.log) ∙ ap length ok.stands.log ∙ sym place_is;
+          scan = tt;
+          waits = ok.stands.checkpoint.waits;
+          heads = ok.stands.checkpoint.heads;
+          none_yet = λ unfinished. ok.stands.checkpoint.none_yet (ap is_unfinished (ok.stands.phase ∙ phase_is));
         }
         (aside_kept c.aside c.store c.store (either c.changed) (either changed) c.locks c.locks (slots_same c.store c.store refl) now_frozen (λ q is. is) ok.aside)
 
@@ -120,28 +110,18 @@ module _ {A : Type 0} (c : Inside A) (ok : IsCore c) (log : Log) where
 
     pub rest_core : IsCore after_rest
     rest_core =
-        token_core c ok Rest ok.world.number log.records (number_here Rest log_is) log refl store c.changed c.checkpoint c.aside (rest ok.world)
+        token_core c ok Rest ok.world.number log.records (number_here Rest log_is) log refl store c.changed c.checkpoint c.aside (rest ok.world) (refl, refl, refl, refl, refl)
         (more ok.run (Rests (ok.stands.phase ∙ phase_is) (all_started c ok Complete free)))
+        (λ q. ap cleaned_versions (ok.stands.versions q) ∙ sym (rested_versions c.store q) ∙ ap (λ (l : Slots). versions_in l q) (sym store_is)) ok.stands.collecting ok.stands.frozen
         record {
-          catalog = ok.stands.catalog;
-          opening = ok.stands.opening;
-          log = token_log c ok Rest ok.world.number log.records (number_here Rest log_is);
-          calls = ok.stands.calls;
-          versions = λ q. ap cleaned_versions (ok.stands.versions q) ∙ sym (rested_versions c.store q) ∙ ap (λ (l : Slots). versions_in l q) (sym store_is);
-          collecting = ok.stands.collecting;
-          frozen = ok.stands.frozen;
-          locks = ok.stands.locks;
-          phase = refl;
-          checkpoint = record {
-            number = ok.stands.checkpoint.number;
-            finished = ok.stands.checkpoint.finished;
-            kind = ok.stands.checkpoint.kind;
-            place = λ cutting. absurd (true≢false (sym cutting));
-            scan = tt;
-            waits = ok.stands.checkpoint.waits;
-            heads = ok.stands.checkpoint.heads;
-            none_yet = λ unfinished. absurd (true≢false (sym unfinished));
-          };
+          number = ok.stands.checkpoint.number;
+          finished = ok.stands.checkpoint.finished;
+          kind = ok.stands.checkpoint.kind;
+          place = λ cutting. absurd (true≢false (sym cutting));
+          scan = tt;
+          waits = ok.stands.checkpoint.waits;
+          heads = ok.stands.checkpoint.heads;
+          none_yet = λ unfinished. absurd (true≢false (sym unfinished));
         }
         (aside_kept c.aside c.store store (either c.changed) (either c.changed) c.locks c.locks (subst (λ (l : Slots). KeepsSlots c.store l) (sym store_is) (slots_rested c.store)) (λ q is. is)
         (λ q is. is) ok.aside)

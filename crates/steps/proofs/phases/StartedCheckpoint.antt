@@ -11,7 +11,7 @@ use Rattle.steps.specs.Checkpointing.{started}
 use Rattle.steps.specs.machine.Machine.{Starts, more, start}
 use Rattle.steps.specs.declared.checkpoints.Way.{Way}
 use Rattle.steps.specs.declared.cores.Core.TheInside.{Inside}
-use Rattle.steps.proofs.phases.AddedToken.{number_is, token_log, token_core}
+use Rattle.steps.proofs.phases.AddedToken.{number_is, token_core}
 
 module _ {A : Type 0} (c : Inside A) (ok : IsCore c) (kind : Kind) (way : Way) (log : Log) (at_rest : c.phase ≡ Rest) (untaken : c.checkpoint.header ≡ None) (log_is : log.records ≡ c.log.records ++ Token Prepare (c.checkpoint.number + 1) ∷ []) where
   abbrev after_start : Inside A
@@ -25,28 +25,18 @@ module _ {A : Type 0} (c : Inside A) (ok : IsCore c) (kind : Kind) (way : Way) (
 
   pub start_core : IsCore after_start
   start_core =
-      token_core c ok Prepare (suc ok.world.number) log.records log_as log refl c.store c.changed (record c.checkpoint { number = c.checkpoint.number + 1; kind = kind; way = way }) c.aside (start ok.world kind)
+      token_core c ok Prepare (suc ok.world.number) log.records log_as log refl c.store c.changed (record c.checkpoint { number = c.checkpoint.number + 1; kind = kind; way = way }) c.aside (start ok.world kind) (refl, refl, refl, refl, refl)
       (more ok.run (Starts kind (ok.stands.phase ∙ at_rest)))
+      ok.stands.versions ok.stands.collecting ok.stands.frozen
       record {
-        catalog = ok.stands.catalog;
-        opening = ok.stands.opening;
-        log = token_log c ok Prepare (suc ok.world.number) log.records log_as;
-        calls = ok.stands.calls;
-        versions = ok.stands.versions;
-        collecting = ok.stands.collecting;
-        frozen = ok.stands.frozen;
-        locks = ok.stands.locks;
-        phase = refl;
-        checkpoint = record {
-          number = sym next_is;
-          finished = ok.stands.checkpoint.finished;
-          kind = refl;
-          place = λ cutting. absurd (true≢false (sym cutting));
-          scan = tt;
-          waits = ok.stands.checkpoint.waits;
-          heads = λ h is. absurd (let no_header : None ≡ Some h = sym untaken ∙ is in cc);
-          none_yet = λ unfinished. untaken;
-        };
+        number = sym next_is;
+        finished = ok.stands.checkpoint.finished;
+        kind = refl;
+        place = λ cutting. absurd (true≢false (sym cutting));
+        scan = tt;
+        waits = ok.stands.checkpoint.waits;
+        heads = λ h is. absurd (let no_header : None ≡ Some h = sym untaken ∙ is in cc);
+        none_yet = λ unfinished. untaken;
       }
       ok.aside
 

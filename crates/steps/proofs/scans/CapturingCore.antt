@@ -37,7 +37,7 @@ use Rattle.steps.specs.declared.checkpoints.Way.TheVariants.{Streamed, Whole}
 use Rattle.steps.specs.declared.given.Given.{Given}
 use Rattle.pipe.specs.declared.taps.Tap.{Tap}
 use Rattle.steps.specs.declared.cores.Core.TheInside.{Inside}
-use Rattle.steps.proofs.phases.AddedToken.{token_log, token_core}
+use Rattle.steps.proofs.phases.AddedToken.{token_core}
 use Rattle.steps.proofs.phases.FrozenKeys.{frozen_is}
 use Rattle.steps.proofs.phases.PhaseEnds.{all_started}
 use Rattle.steps.proofs.phases.ResolveAndRest.{before_capture, entered_log, number_here}
@@ -98,28 +98,18 @@ module _ {A : Type 0} (c : Inside A) (ok : IsCore c) where
     pub begin_core : IsCore after_begin
     begin_core =
         token_core c ok Capture ok.world.number log.records (number_here c ok log Capture log_is) log refl c.store c.changed
-        begun c.aside (capture ok.world (is_full c.checkpoint.kind))
+        begun c.aside (capture ok.world (is_full c.checkpoint.kind)) (refl, refl, refl, refl, refl)
         (more ok.run (Captures (is_full c.checkpoint.kind) (ok.stands.phase ∙ phase_is) (all_started c ok Resolve free) (ap is_full (sym ok.stands.checkpoint.kind))))
+        ok.stands.versions ok.stands.collecting ok.stands.frozen
         record {
-          catalog = ok.stands.catalog;
-          opening = ok.stands.opening;
-          log = token_log c ok Capture ok.world.number log.records (number_here c ok log Capture log_is);
-          calls = ok.stands.calls;
-          versions = ok.stands.versions;
-          collecting = ok.stands.collecting;
-          frozen = ok.stands.frozen;
-          locks = ok.stands.locks;
-          phase = refl;
-          checkpoint = record {
-            number = ok.stands.checkpoint.number;
-            finished = ok.stands.checkpoint.finished;
-            kind = ok.stands.checkpoint.kind;
-            place = λ cutting. ap length (before_capture ok.world.number ok.world.number ok.world.log) ∙ ok.stands.checkpoint.place (ap is_cutting (ok.stands.phase ∙ phase_is));
-            scan = begun_scan;
-            waits = ok.stands.checkpoint.waits;
-            heads = λ h is. absurd (let no_header : None ≡ Some h = sym none_yet ∙ is in cc);
-            none_yet = λ unfinished. none_yet;
-          };
+          number = ok.stands.checkpoint.number;
+          finished = ok.stands.checkpoint.finished;
+          kind = ok.stands.checkpoint.kind;
+          place = λ cutting. ap length (before_capture ok.world.number ok.world.number ok.world.log) ∙ ok.stands.checkpoint.place (ap is_cutting (ok.stands.phase ∙ phase_is));
+          scan = begun_scan;
+          waits = ok.stands.checkpoint.waits;
+          heads = λ h is. absurd (let no_header : None ≡ Some h = sym none_yet ∙ is in cc);
+          none_yet = λ unfinished. none_yet;
         }
         (ok.aside)
 

@@ -41,7 +41,7 @@ use Rattle.steps.specs.declared.checkpoints.Way.TheVariants.{Streamed, Whole}
 use Rattle.steps.specs.declared.cores.Core.TheInside.{Inside}
 use Rattle.steps.proofs.scans.CapturingCore.{phase_here, recorded, scan_good, scan_here}
 use Rattle.steps.proofs.log.Cuts.{at_cut-reverse, written-reverse}
-use Rattle.steps.proofs.phases.AddedToken.{number_is, token_log, token_core}
+use Rattle.steps.proofs.phases.AddedToken.{number_is, token_core}
 use Rattle.steps.proofs.machine.CallInvariant.{initial_good}
 use Rattle.steps.proofs.phases.FrozenKeys.{base_here, base_place, cuts_here, place_here}
 use Rattle.steps.proofs.machine.HistoryGrowth.{finished_below, pending}
@@ -241,27 +241,17 @@ module _ {A : Type 0} (c : Inside A) (ok : IsCore c) (phase_is : c.phase ≡ Cap
         ((i : taken.Image) → k.waiting ≡ Some i → Among (machine_image i) (complete w).images) → ((h : Header) → k.header ≡ Some h → IsHead k.given.entries (complete w).images h) →
         IsCore (record c { log = log; changed = changed; phase = Complete; checkpoint = k; aside = Unknown })
     completed k number finished kind waits heads =
-        token_core c ok Complete w.number log.records (number_here c ok log Complete log_is) log refl c.store changed k Unknown (complete w) (completes all_visited)
+        token_core c ok Complete w.number log.records (number_here c ok log Complete log_is) log refl c.store changed k Unknown (complete w) (refl, refl, refl, refl, refl) (completes all_visited)
+        ok.stands.versions (λ q. ok.stands.collecting q ∙ ap (λ (s : ChangedSets). has s.collecting q) (sym changed_is)) (λ q. sym (ap (λ (s : ChangedSets). has s.frozen q) changed_is ∙ none_in_empty q))
         record {
-          catalog = ok.stands.catalog;
-          opening = ok.stands.opening;
-          log = token_log c ok Complete w.number log.records (number_here c ok log Complete log_is);
-          calls = ok.stands.calls;
-          versions = ok.stands.versions;
-          collecting = λ q. ok.stands.collecting q ∙ ap (λ (s : ChangedSets). has s.collecting q) (sym changed_is);
-          frozen = λ q. sym (ap (λ (s : ChangedSets). has s.frozen q) changed_is ∙ none_in_empty q);
-          locks = ok.stands.locks;
-          phase = refl;
-          checkpoint = record {
-            number = ok.stands.checkpoint.number ∙ sym number;
-            finished = ok.stands.checkpoint.number ∙ sym finished;
-            kind = ok.stands.checkpoint.kind ∙ sym kind;
-            place = λ cut. absurd (true≢false (sym cut));
-            scan = tt;
-            waits = waits;
-            heads = heads;
-            none_yet = λ unfinished. absurd (true≢false (sym unfinished));
-          };
+          number = ok.stands.checkpoint.number ∙ sym number;
+          finished = ok.stands.checkpoint.number ∙ sym finished;
+          kind = ok.stands.checkpoint.kind ∙ sym kind;
+          place = λ cut. absurd (true≢false (sym cut));
+          scan = tt;
+          waits = waits;
+          heads = heads;
+          none_yet = λ unfinished. absurd (true≢false (sym unfinished));
         }
         (λ slot key there so. tt)
 

@@ -11,19 +11,15 @@ use Rattle.steps.proofs.cores.Core.complete_image.Goals as goal
 pub invariant_of-self : goal.invariant_of-self
 invariant_of-self g c = same_core c.self.inside c.self.invariant c.push_token.new.log c.in_err-push_token.ensures.err
 
-pub image_of-image-requires-clause-once : goal.image_of-image-requires-clause-once
-image_of-image-requires-clause-once g c =
+pub image_of-image-requires : goal.image_of-image-requires
+image_of-image-requires g c =
     let way = ap (λ (v : CoreView). v.checkpoint.way) c.self.view_is ∙ c.requires.way in
     let free = advances_from c.self.inside c.self.invariant c.args.self.now c.self.view_is Capture c.requires.phase c.requires.free in
-    subst EachKeyOnce (sym (all_given c.self.inside c.self.invariant free.is way c.taken_list-entries.result c.taken_list-entries.ensures.entries)) (scan_here c.self.inside
-    c.self.invariant free.is).once
-
-pub image_of-image-requires-clause-lawful : goal.image_of-image-requires-clause-lawful
-image_of-image-requires-clause-lawful g c =
-    let way = ap (λ (v : CoreView). v.checkpoint.way) c.self.view_is ∙ c.requires.way in
-    let free = advances_from c.self.inside c.self.invariant c.args.self.now c.self.view_is Capture c.requires.phase c.requires.free in
-    same_lawful c.self.inside.checkpoint c.taken_list-entries.result.items (all_given c.self.inside c.self.invariant free.is way c.taken_list-entries.result c.taken_list-entries.ensures.entries)
-    (made_lawful c.self.inside c.self.invariant free.is c.len-records.ensures.most)
+    let given = all_given c.self.inside c.self.invariant free.is way c.taken_list-entries.result c.taken_list-entries.ensures.entries in
+    record {
+      once = subst EachKeyOnce (sym given) (scan_here c.self.inside c.self.invariant free.is).once;
+      lawful = same_lawful c.self.inside.checkpoint c.taken_list-entries.result.items given (made_lawful c.self.inside c.self.invariant free.is c.len-records.ensures.most);
+    }
 
 pub invariant_of-self-2 : goal.invariant_of-self-2
 invariant_of-self-2 g c =
