@@ -25,10 +25,7 @@ use Rattle.steps.proofs.log.OldestFirst.{reverse_push, length-reverse, after-rev
 
 abbrev ahead : Phase → ℕ
 ahead Prepare = 1
-ahead Rest = 0
-ahead Resolve = 0
-ahead Capture = 0
-ahead Complete = 0
+ahead _ = 0
 
 step_below : (p q : Phase) (k m n : ℕ) → Follows p k q m → n + ahead p ≤ k → n + ahead q ≤ m
 step_below Rest Prepare k m n g l = omega arith
@@ -52,10 +49,7 @@ resolved_below n (Call s m p a o r ∷ h) c x = resolved_below n h c x
 
 at_prepare : (p : Phase) (k m n : ℕ) → Follows p k Resolve m → n + ahead p ≤ k → n < m
 at_prepare Prepare k m n g l = omega arith
-at_prepare Rest k m n g l = absurd g
-at_prepare Resolve k m n g l = absurd g
-at_prepare Capture k m n g l = absurd g
-at_prepare Complete k m n g l = absurd g
+at_prepare _ k m n g l = absurd g
 
 -- a place within the first part, or past it
 within_at : (b : Bool) (x y n : ℕ) → (x < n → y ≡ x) → cond b 0 (suc x) < suc n → cond b 0 (suc y) ≡ cond b 0 (suc x)
@@ -151,10 +145,7 @@ stands-resolves n (r ∷ h) s = token_resolves n r h (older (stands-append (Toke
 -- resolved checkpoints have numbers above 0
 from_prepare : (p : Phase) (k m f : ℕ) → Follows p k Resolve m → f + pending p ≤ k → 1 ≤ m
 from_prepare Prepare k m f g l = omega arith
-from_prepare Rest k m f g l = absurd g
-from_prepare Resolve k m f g l = absurd g
-from_prepare Capture k m f g l = absurd g
-from_prepare Complete k m f g l = absurd g
+from_prepare _ k m f g l = absurd g
 
 resolved_above : (n : ℕ) (h : List Record) → IsCyclicHistory h → history_resolves n h → n ≡ 0 → ⊥
 resolved_above n [] c x z = x

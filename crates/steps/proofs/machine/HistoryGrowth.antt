@@ -18,10 +18,8 @@ use Rattle.steps.specs.machine.Machine.{Open, answer}
 -- a checkpoint that runs has a number IsAbove that of the last finished one
 abbrev pub pending : Phase → ℕ
 pending Rest = 0
-pending Prepare = 1
-pending Resolve = 1
-pending Capture = 1
 pending Complete = 0
+pending _ = 1
 
 below_at : (p p' : Phase) (n n' f : ℕ) → Follows p n p' n' → f + pending p ≤ n → last_finished_at p' n' f + pending p' ≤ n'
 below_at Rest Prepare n n' f g l = omega arith
@@ -69,18 +67,12 @@ since_unchanged c t n (Call s m p args o r ∷ h) q e =
 
 pub resolves-more : (r : Record) (h : List Record) (n : ℕ) → history_resolves n h → history_resolves n (r ∷ h)
 resolves-more (Token Resolve m) h n x = inr x
-resolves-more (Token Rest m) h n x = x
-resolves-more (Token Prepare m) h n x = x
-resolves-more (Token Capture m) h n x = x
-resolves-more (Token Complete m) h n x = x
-resolves-more (Call s m p a o r) h n x = x
+resolves-more _ h n x = x
 
 abbrev pub has_cut : Phase → Bool
 has_cut Rest = false
 has_cut Prepare = false
-has_cut Resolve = true
-has_cut Capture = true
-has_cut Complete = true
+has_cut _ = true
 
 resolved_at : (p q : Phase) (n m : ℕ) (h : List Record) → Follows p n q m → has_cut q ≡ true → (has_cut p ≡ true → history_resolves n h) → history_resolves m (Token q m ∷ h)
 resolved_at p Resolve n m h g e x = inl refl
@@ -183,10 +175,7 @@ before-own h n = ap (λ b. cond b h (before n h)) (eq-eqb n n refl)
 
 grows_at : (p : Phase) (m n f k : ℕ) → Follows p m Resolve k → f + pending p ≤ m → n ≤ f → n < k
 grows_at Prepare m n f k g l h = omega arith
-grows_at Rest m n f k g l h = absurd g
-grows_at Resolve m n f k g l h = absurd g
-grows_at Capture m n f k g l h = absurd g
-grows_at Complete m n f k g l h = absurd g
+grows_at _ m n f k g l h = absurd g
 
 -- the cuts of finished checkpoints stay, by the log alone
 pub before-grows : (r : Record) (h : List Record) → IsCyclicHistory (r ∷ h) → (n : ℕ) → n ≤ history_last_finished h → before n (r ∷ h) ≡ before n h
@@ -200,15 +189,12 @@ before-grows (Token Resolve m) h c n l =
     before-resolve h n m (grows_at (history_phase h) (history_number h) n (history_last_finished h) m c.0 (finished_below h c.1) l)
 
 finished_up : (p p' : Phase) (n m f : ℕ) → Follows p n p' m → f + pending p ≤ n → f ≤ last_finished_at p' m f
-finished_up p Rest n m f g l = le_refl f
-finished_up p Prepare n m f g l = le_refl f
-finished_up p Resolve n m f g l = le_refl f
-finished_up p Capture n m f g l = le_refl f
 finished_up Capture Complete n m f g l = omega arith
 finished_up Rest Complete n m f g l = absurd g
 finished_up Prepare Complete n m f g l = absurd g
 finished_up Resolve Complete n m f g l = absurd g
 finished_up Complete Complete n m f g l = absurd g
+finished_up p _ n m f g l = le_refl f
 
 finished-grows : (r : Record) (h : List Record) → IsCyclicHistory (r ∷ h) → history_last_finished h ≤ history_last_finished (r ∷ h)
 unfolding history_last_finished

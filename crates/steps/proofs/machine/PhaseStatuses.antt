@@ -74,25 +74,19 @@ clean_status a b vis fro U H E (Some v) = tt
 -- open calls
 
 pub rest_prepare : (p : Phase) → starts Rest p ≡ true → starts Prepare p ≡ true
-rest_prepare Rest e = refl
-rest_prepare Complete e = refl
-rest_prepare Prepare e = refl
 rest_prepare Resolve e = e
 rest_prepare Capture e = e
+rest_prepare _ e = refl
 
 pub rest_early : (p : Phase) → starts Rest p ≡ true → p ≡ Prepare → ⊥
 rest_early Rest e f = rest_not f
 rest_early Complete e f = complete_not f
-rest_early Prepare e f = no (sym e)
-rest_early Resolve e f = no (sym e)
-rest_early Capture e f = no (sym e)
+rest_early _ e f = no (sym e)
 
 pub capture_complete : (p : Phase) → starts Capture p ≡ true → starts Complete p ≡ true
 capture_complete Resolve e = refl
 capture_complete Capture e = refl
-capture_complete Rest e = no (sym e)
-capture_complete Prepare e = no (sym e)
-capture_complete Complete e = no (sym e)
+capture_complete _ e = no (sym e)
 
 pub restarted_all :
     (P : ℕ → Open → Type 0) (calls : CallsBySession) → ((s : ℕ) (c : Open) → calls s ≡ Some c → P s (record c { start = Rest })) → (s : ℕ) (c : Open) → restarted_open (calls s) ≡ Some c → P s c

@@ -23,25 +23,14 @@ module _ (a a' b : Cell) (same : a ≡ a') (U H E U' H' E' : Type 0) (u : U → 
   resolve_alone false (Some y) x = (x.0, sym same ∙ x.1, h x.2)
 
   capture_alone : (vis fro : Bool) (av : Bool) (sb : Option Cell) → StatusAtCapture a b vis fro U av sb → StatusAtCapture a' b vis fro U' av sb
-  capture_alone true fro true None x = x
-  capture_alone true fro true (Some y) x = x
-  capture_alone true fro false sb x = x
-  capture_alone false fro true (Some y) x = x
-  capture_alone false fro true None x = x
   capture_alone false fro false None x = (sym same ∙ x.0, u x.1)
-  capture_alone false fro false (Some y) x = x
+  capture_alone _ fro _ _ x = x
 
   pub status_alone : (p : Phase) (vis fro : Bool) (o : Option KeyVersions) → status p a b vis fro U H E o → status p a' b vis fro U' H' E' o
-  status_alone Rest vis fro None x = x
-  status_alone Rest vis fro (Some v) x = x
-  status_alone Prepare vis fro None x = x
   status_alone Prepare vis fro (Some v) x = prepare_alone v.available v.stable x
-  status_alone Resolve vis fro None x = x
   status_alone Resolve vis fro (Some v) x = resolve_alone v.available v.stable x
-  status_alone Capture vis fro None x = x
   status_alone Capture vis fro (Some v) x = capture_alone vis fro v.available v.stable x
-  status_alone Complete vis fro None x = x
-  status_alone Complete vis fro (Some v) x = x
+  status_alone _ vis fro _ x = x
 
 pub rest_not : {A : Type 0} → Rest ≡ Prepare → A
 rest_not e = absurd (let no : Rest ≡ Prepare = e in cc)
@@ -82,9 +71,6 @@ module _ (a b y : Cell) (U H E U' H' E' : Type 0) where
       status p a b vis fro U' H' E' (Some (record (copied st (record { live = l; stable = sb; available = av })) { live = y }))
   write_at Rest Rest e vis fro l sb av lu eu hs h' e' x = x
   write_at Rest Complete e vis fro l sb av lu eu hs h' e' x = x
-  write_at Rest Prepare e vis fro l sb av lu eu hs h' e' x = no (sym e)
-  write_at Rest Resolve e vis fro l sb av lu eu hs h' e' x = no (sym e)
-  write_at Rest Capture e vis fro l sb av lu eu hs h' e' x = no (sym e)
   write_at Prepare Rest e vis fro l None false lu eu hs h' e' x = e' rest_not
   write_at Prepare Rest e vis fro l (Some z) false lu eu hs h' e' x = rest_not (hs x.1)
   write_at Prepare Rest e vis fro l sb true lu eu hs h' e' x = absurd x
@@ -94,8 +80,6 @@ module _ (a b y : Cell) (U H E U' H' E' : Type 0) where
   write_at Prepare Prepare e vis fro l None false lu eu hs h' e' x = (lu (eu refl x), h' refl)
   write_at Prepare Prepare e vis fro l (Some z) false lu eu hs h' e' x = (x.0, h' refl)
   write_at Prepare Prepare e vis fro l sb true lu eu hs h' e' x = absurd x
-  write_at Prepare Resolve e vis fro l sb av lu eu hs h' e' x = no (sym e)
-  write_at Prepare Capture e vis fro l sb av lu eu hs h' e' x = no (sym e)
   write_at Resolve Prepare e vis fro l None false lu eu hs h' e' x = (lu x.1 ∙ x.0, x.0, h' refl)
   write_at Resolve Prepare e vis fro l (Some z) false lu eu hs h' e' x = (x.0, x.1, h' refl)
   write_at Resolve Prepare e vis fro l None true lu eu hs h' e' x = absurd x
@@ -104,19 +88,12 @@ module _ (a b y : Cell) (U H E U' H' E' : Type 0) where
   write_at Resolve Resolve e vis fro l (Some z) false lu eu hs h' e' x = resolve_not (hs x.2)
   write_at Resolve Resolve e vis fro l None true lu eu hs h' e' x = absurd x
   write_at Resolve Resolve e vis fro l (Some z) true lu eu hs h' e' x = x
-  write_at Resolve Rest e vis fro l sb av lu eu hs h' e' x = no (sym e)
-  write_at Resolve Capture e vis fro l sb av lu eu hs h' e' x = no (sym e)
-  write_at Resolve Complete e vis fro l sb av lu eu hs h' e' x = no (sym e)
   write_at Capture Resolve e vis fro l sb av lu eu hs h' e' x = write_late vis fro l sb av lu x
   write_at Capture Capture e vis fro l sb av lu eu hs h' e' x = write_late vis fro l sb av lu x
-  write_at Capture Rest e vis fro l sb av lu eu hs h' e' x = no (sym e)
-  write_at Capture Prepare e vis fro l sb av lu eu hs h' e' x = no (sym e)
-  write_at Capture Complete e vis fro l sb av lu eu hs h' e' x = no (sym e)
   write_at Complete Resolve e vis fro l sb av lu eu hs h' e' x = write_last vis l sb av x
   write_at Complete Capture e vis fro l sb av lu eu hs h' e' x = write_last vis l sb av x
   write_at Complete Complete e vis fro l sb av lu eu hs h' e' x = x
-  write_at Complete Rest e vis fro l sb av lu eu hs h' e' x = no (sym e)
-  write_at Complete Prepare e vis fro l sb av lu eu hs h' e' x = no (sym e)
+  write_at _ _ e vis fro l sb av lu eu hs h' e' x = no (sym e)
 
   -- a key without a record has one made
   made_late : (vis fro : Bool) → fro ≡ false → b ≡ None → StatusAtCapture a b vis fro U true None
@@ -156,9 +133,6 @@ module _ (a a' b : Cell) (U H E U' H' E' : Type 0) (un : U → ⊥) (u' : U') (e
       status p a' b vis fro U' H' E' (Some (kept st p (record { live = l; stable = sb; available = av })))
   commit_at Rest Rest e vis fro l sb av hs x = x
   commit_at Rest Complete e vis fro l sb av hs x = x
-  commit_at Rest Prepare e vis fro l sb av hs x = no (sym e)
-  commit_at Rest Resolve e vis fro l sb av hs x = no (sym e)
-  commit_at Rest Capture e vis fro l sb av hs x = no (sym e)
   commit_at Prepare Rest e vis fro l None false hs x = e'
   commit_at Prepare Rest e vis fro l (Some z) false hs x = rest_not (hs x.1)
   commit_at Prepare Rest e vis fro l sb true hs x = absurd x
@@ -167,8 +141,6 @@ module _ (a a' b : Cell) (U H E U' H' E' : Type 0) (un : U → ⊥) (u' : U') (e
   commit_at Prepare Complete e vis fro l sb true hs x = absurd x
   commit_at Prepare Prepare e vis fro l sb false hs x = e'
   commit_at Prepare Prepare e vis fro l sb true hs x = absurd x
-  commit_at Prepare Resolve e vis fro l sb av hs x = no (sym e)
-  commit_at Prepare Capture e vis fro l sb av hs x = no (sym e)
   commit_at Resolve Prepare e vis fro l None false hs x = absurd (un x.1)
   commit_at Resolve Prepare e vis fro l (Some z) false hs x = x.0
   commit_at Resolve Prepare e vis fro l None true hs x = absurd x
@@ -177,19 +149,12 @@ module _ (a a' b : Cell) (U H E U' H' E' : Type 0) (un : U → ⊥) (u' : U') (e
   commit_at Resolve Resolve e vis fro l (Some z) false hs x = resolve_not (hs x.2)
   commit_at Resolve Resolve e vis fro l None true hs x = absurd x
   commit_at Resolve Resolve e vis fro l (Some z) true hs x = x
-  commit_at Resolve Rest e vis fro l sb av hs x = no (sym e)
-  commit_at Resolve Capture e vis fro l sb av hs x = no (sym e)
-  commit_at Resolve Complete e vis fro l sb av hs x = no (sym e)
   commit_at Capture Resolve e vis fro l sb av hs x = commit_late vis fro sb av x
   commit_at Capture Capture e vis fro l sb av hs x = commit_late vis fro sb av x
-  commit_at Capture Rest e vis fro l sb av hs x = no (sym e)
-  commit_at Capture Prepare e vis fro l sb av hs x = no (sym e)
-  commit_at Capture Complete e vis fro l sb av hs x = no (sym e)
   commit_at Complete Resolve e vis fro l sb av hs x = x
   commit_at Complete Capture e vis fro l sb av hs x = x
   commit_at Complete Complete e vis fro l sb av hs x = x
-  commit_at Complete Rest e vis fro l sb av hs x = no (sym e)
-  commit_at Complete Prepare e vis fro l sb av hs x = no (sym e)
+  commit_at _ _ e vis fro l sb av hs x = no (sym e)
 
   pub commit_status :
       (p st : Phase) → starts p st ≡ true → (vis fro : Bool) (v : KeyVersions) → (H → st ≡ Prepare) → status p a b vis fro U H E (Some v) → status p a' b vis fro U' H' E' (Some (kept st p v))
@@ -211,9 +176,7 @@ module _ (a b : Cell) (U H E U' H' E' : Type 0) (u' : U') (e' : E') where
   undo_at : (p : Phase) (vis fro : Bool) (l : Cell) (sb : Option Cell) (av : Bool) →
       status p a b vis fro U H E (Some (record { live = l; stable = sb; available = av })) →
       status p a b vis fro U' H' E' (Some (undone av a (record { live = l; stable = sb; available = av })))
-  undo_at Rest vis fro l sb true x = absurd x
   undo_at Rest vis fro l sb false x = tt
-  undo_at Prepare vis fro l sb true x = absurd x
   undo_at Prepare vis fro l sb false x = e'
   undo_at Resolve vis fro l None true x = x
   undo_at Resolve vis fro l (Some z) true x = x
@@ -223,7 +186,7 @@ module _ (a b : Cell) (U H E U' H' E' : Type 0) (u' : U') (e' : E') where
   undo_at Capture vis fro l sb false x = undo_late vis fro sb false x
   undo_at Complete false fro l sb av x = tt
   undo_at Complete true fro l sb true x = x
-  undo_at Complete true fro l sb false x = absurd x
+  undo_at _ _ fro l sb _ x = absurd x
 
   pub undo_status : (p : Phase) (vis fro : Bool) (v : KeyVersions) → status p a b vis fro U H E (Some v) → status p a b vis fro U' H' E' (Some (undone v.available a v))
   undo_status p vis fro v x = undo_at p vis fro v.live v.stable v.available x

@@ -15,30 +15,22 @@ use Rattle.steps.specs.machine.Machine.{State, Goes, Begins, Steps, Commits, Abo
 
 -- has the scan begun, of a checkpoint that still runs?
 is_scanned : Phase → Bool
-is_scanned Rest = false
-is_scanned Prepare = false
-is_scanned Resolve = false
 is_scanned Capture = true
 is_scanned Complete = true
+is_scanned _ = false
 
 ScansByKind : State → Type 0
 ScansByKind w = is_scanned w.phase ≡ true → w.all ≡ is_full w.kind
 
 goes_by_kind : {w x : State} → Goes w x → ScansByKind w → ScansByKind x
 unfolding is_scanned ScansByKind
-goes_by_kind (Begins s n p args m) f = f
-goes_by_kind (Steps s c m) f = f
-goes_by_kind (Commits s c i e z) f = f
-goes_by_kind (Aborts s c i e z) f = f
-goes_by_kind (Gives_up s c i) f = f
 goes_by_kind (Starts k e) f = λ h. absurd (true≢false (sym h))
 goes_by_kind (Resolves e a) f = λ h. absurd (true≢false (sym h))
 goes_by_kind (Captures all e a k) f = λ h. k
-goes_by_kind (Visits k v m) f = f
 goes_by_kind (Completes e d) f = λ h. f (ap is_scanned e)
 goes_by_kind (Rests e a) f = λ h. absurd (true≢false (sym h))
-goes_by_kind (Reclaims k v m) f = f
 goes_by_kind (Abandons e) f = λ h. absurd (true≢false (sym h))
+goes_by_kind _ f = f
 
 runs_by_kind : {a w : State} → Runs a w → ScansByKind a → ScansByKind w
 runs_by_kind none f = f

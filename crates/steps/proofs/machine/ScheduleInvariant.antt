@@ -145,21 +145,15 @@ module _ (c : List Procedure) (t : Table) (h : List Record) (f : ℕ) where
 -- checkpoint 0 is the opening
 resolve_above : (p : Phase) (n m f : ℕ) → Follows p n Resolve m → f + pending p ≤ n → m ≡ 0 → ⊥
 resolve_above Prepare n m f g l z = absurd (omega arith)
-resolve_above Rest n m f g l z = g
-resolve_above Resolve n m f g l z = g
-resolve_above Capture n m f g l z = g
-resolve_above Complete n m f g l z = g
+resolve_above _ n m f g l z = g
 
 pub before_zero : (h : List Record) → IsCyclicHistory h → before 0 h ≡ []
 unfolding before
 before_zero [] c = refl
 before_zero (Token Resolve m ∷ h) c =
     ap (λ b. cond b h (before 0 h)) (ne_eqb m 0 (resolve_above (history_phase h) (history_number h) m (history_last_finished h) c.0 (finished_below h c.1))) ∙ before_zero h c.1
-before_zero (Token Rest m ∷ h) c = before_zero h c.1
-before_zero (Token Prepare m ∷ h) c = before_zero h c.1
-before_zero (Token Capture m ∷ h) c = before_zero h c.1
-before_zero (Token Complete m ∷ h) c = before_zero h c.1
 before_zero (Call s n p args o r ∷ h) c = before_zero h c
+before_zero (Token _ m ∷ h) c = before_zero h c.1
 
 pub opening_at : (c : List Procedure) (t : Table) (h : List Record) → IsCyclicHistory h → t ≡ at c t 0 h
 unfolding history_table

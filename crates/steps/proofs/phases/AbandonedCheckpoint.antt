@@ -135,6 +135,4 @@ module _ {A : Type 0} where
       by : (p : Phase) → c.phase ≡ p → abandon_by p c.checkpoint.way (length c.log.records == LOG_RECORDS) ≡ None → (c.phase ≡ Resolve) ⊎ (c.phase ≡ Capture)
       by Resolve is e = inl is
       by Capture is e = inr is
-      by Rest is e = absurd (cc)
-      by Prepare is e = absurd (cc)
-      by Complete is e = absurd (cc)
+      by _ is e = absurd (cc)

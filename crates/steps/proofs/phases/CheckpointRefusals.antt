@@ -33,18 +33,13 @@ first_of false e rest is = absurd (cc)
 
 rest_is : (p : Phase) → is_rest p ≡ true → p ≡ Rest
 rest_is Rest e = refl
-rest_is Prepare e = absurd (true≢false (sym e))
-rest_is Resolve e = absurd (true≢false (sym e))
-rest_is Capture e = absurd (true≢false (sym e))
-rest_is Complete e = absurd (true≢false (sym e))
+rest_is _ e = absurd (true≢false (sym e))
 
 untaken :
     (b : Bool) (w : Option Image) (h : Option Header) (full : Bool) →
     option_or (refused_unless b starting.NotAtRest) (option_or (refused_unless (is_none w && is_none h) starting.NotTaken) (refused_unless (not full) starting.LogFull)) ≡ None → h ≡ None
-untaken false w h full e = absurd (cc)
-untaken true (Some i) h full e = absurd (cc)
-untaken true None (Some h) full e = absurd (cc)
 untaken true None None full e = refl
+untaken _ _ _ full e = absurd (cc)
 
 -- the refusals, by what they go by
 abbrev pub start_by : Phase → Option Image → Option Header → Bool → Option StartError
@@ -67,11 +62,8 @@ abbrev pub capture_to_by : Phase → Way → Option CaptureToError
 capture_to_by p way = option_or (refused_unless (is_capture p) sending.NotCapturing) (refused_unless (is_streamed way) sending.WrongWay)
 
 pub not_capture : (p : Phase) → (p ≡ Capture → ⊥) → is_capture p ≡ false
-not_capture Rest f = refl
-not_capture Prepare f = refl
-not_capture Resolve f = refl
 not_capture Capture f = absurd (f refl)
-not_capture Complete f = refl
+not_capture _ f = refl
 
 module _ {A : Type 0} (c : Inside A) (ok : IsCore c) (v : CoreView) (same : view_of c ≡ v) where
   phase_here : phase_of v.log ≡ c.phase
@@ -139,17 +131,12 @@ module _ {A : Type 0} (c : Inside A) (ok : IsCore c) (v : CoreView) (same : view
 
 pub not_rest : (p : Phase) → (p ≡ Rest → ⊥) → is_rest p ≡ false
 not_rest Rest f = absurd (f refl)
-not_rest Prepare f = refl
-not_rest Resolve f = refl
-not_rest Capture f = refl
-not_rest Complete f = refl
+not_rest _ f = refl
 
 pub not_cutting : (p : Phase) → (p ≡ Resolve → ⊥) → (p ≡ Capture → ⊥) → is_cutting p ≡ false
-not_cutting Rest f g = refl
-not_cutting Prepare f g = refl
 not_cutting Resolve f g = absurd (f refl)
 not_cutting Capture f g = absurd (g refl)
-not_cutting Complete f g = refl
+not_cutting _ f g = refl
 
 full_at : (n : ℕ) (b : Bool) → b ≡ true → (IsTrue b → n ≡ LOG_RECORDS) → (n == LOG_RECORDS) ≡ true
 full_at n b e f = eq-eqb n LOG_RECORDS (f e)
@@ -207,8 +194,5 @@ cutting p (inl e) = ap is_cutting e
 cutting p (inr e) = ap is_cutting e
 
 pub not_scanning : (p : Phase) (k : CheckpointView) → (p ≡ Capture → ⊥) → is_scanning p k ≡ false
-not_scanning Rest k f = refl
-not_scanning Prepare k f = refl
-not_scanning Resolve k f = refl
 not_scanning Capture k f = absurd (f refl)
-not_scanning Complete k f = refl
+not_scanning _ k f = refl

@@ -24,11 +24,8 @@ use Rattle.steps.proofs.log.SchedulePromises.{has_place, stood}
 use Rattle.steps.proofs.views.CoreState.{good}
 
 cutting_has_cut : (p : Phase) → is_cutting p ≡ true → has_cut p ≡ true
-cutting_has_cut Rest e = e
-cutting_has_cut Prepare e = e
-cutting_has_cut Resolve e = e
-cutting_has_cut Capture e = e
 cutting_has_cut Complete e = refl
+cutting_has_cut _ e = e
 
 module _ {A : Type 0} (c : Inside A) (ok : IsCore c) where
   module _ (cutting : is_cutting c.phase ≡ true) where

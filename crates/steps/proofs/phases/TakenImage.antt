@@ -30,10 +30,7 @@ module _ {A : Type 0} where
       (p : Phase) (k : Checkpoint A) (waiting : Option Image) (header : Option Header) (spot : ℕ → Option Bytes) (seen wanted : Bytes → Bool) (given : Changes) →
       ScansIn p k spot seen wanted given → ScansIn p (record k { waiting = waiting; header = header }) spot seen wanted given
   scan_taken Capture k waiting header spot seen wanted given scan = record { visited = scan.visited; to_visit = scan.to_visit; within = scan.within; gave = scan.gave; once = scan.once; captured = scan.captured; count = scan.count; chain = scan.chain }
-  scan_taken Rest k waiting header spot seen wanted given scan = tt
-  scan_taken Prepare k waiting header spot seen wanted given scan = tt
-  scan_taken Resolve k waiting header spot seen wanted given scan = tt
-  scan_taken Complete k waiting header spot seen wanted given scan = tt
+  scan_taken _ k waiting header spot seen wanted given scan = tt
 
   module _ (c : Inside A) (ok : IsCore c) where
     -- an image of the machine's is that of its cut

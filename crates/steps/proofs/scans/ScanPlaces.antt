@@ -158,19 +158,15 @@ pub given_more :
     (kind : Kind) (k : Bytes) (fro : Bool) (x : Option Cell) (g : Changes) (es : List Entry) → (kind ≡ Partial → fro ≡ true) → g ≡ map_of es →
     give g k (keeps kind fro x) ≡ map_of (es ++ kept_of kind (option_map (λ y. (k, y)) x))
 unfolding with_change
-given_more Full k fro None g es frozen e = e ∙ ap map_of (sym (append-nil es))
-given_more Full k fro (Some None) g es frozen e = e ∙ ap map_of (sym (append-nil es))
 given_more Full k fro (Some (Some v)) g es frozen e = ap (λ (m : Changes). fin.insert m k (Some v)) e ∙ sym (map_of-push es k (Some v))
-given_more Partial k true None g es frozen e = e ∙ ap map_of (sym (append-nil es))
 given_more Partial k true (Some y) g es frozen e = ap (λ (m : Changes). fin.insert m k y) e ∙ sym (map_of-push es k y)
 given_more Partial k false x g es frozen e = absurd (true≢false (sym (frozen refl)))
+given_more _ k _ _ g es frozen e = e ∙ ap map_of (sym (append-nil es))
 
 pub once_more : (kind : Kind) (k : Bytes) (x : Option Cell) (es : List Entry) → change_at (map_of es) k ≡ None → Once es → Once (es ++ kept_of kind (option_map (λ y. (k, y)) x))
-once_more Full k None es new once = subst Once (sym (append-nil es)) once
-once_more Full k (Some None) es new once = subst Once (sym (append-nil es)) once
 once_more Full k (Some (Some v)) es new once = once-push es k (Some v) once new
-once_more Partial k None es new once = subst Once (sym (append-nil es)) once
 once_more Partial k (Some y) es new once = once-push es k y once new
+once_more _ k _ es new once = subst Once (sym (append-nil es)) once
 
 pub frozen_at : (kind : Kind) (slots : Slots) (frozen : KeySet) (i : ℕ) (k : Bytes) → spots kind slots frozen i ≡ Some k → kind ≡ Partial → has frozen k ≡ true
 frozen_at Full slots frozen i k at e = absurd (not_full (sym e))

@@ -134,17 +134,12 @@ module _ {A : Type 0} where
 
 before_complete : (p : Phase) → Complete ≡ successor p → p ≡ Capture
 before_complete Capture e = refl
-before_complete Rest e = absurd (cc)
-before_complete Prepare e = absurd (cc)
-before_complete Resolve e = absurd (cc)
-before_complete Complete e = absurd (cc)
+before_complete _ e = absurd (cc)
 
 scanned_by : (rest held scanning full : Bool) → option_or (refused_unless rest advancing.AtRest)
     (option_or (refused_unless held advancing.StillActive) (option_or (refused_unless (not scanning) advancing.NotScanned) (refused_unless full advancing.LogFull))) ≡ None → scanning ≡ false
-scanned_by false held scanning full e = absurd (cc)
-scanned_by true false scanning full e = absurd (cc)
-scanned_by true true true full e = absurd (cc)
 scanned_by true true false full e = refl
+scanned_by _ _ _ full e = absurd (cc)
 
 -- where complete is entered no place is left
 scanned : (v : CoreView) → advance_refusal v ≡ None → phase_of v.log ≡ Capture → nat_lt v.checkpoint.cursor v.checkpoint.bound ≡ false

@@ -189,10 +189,7 @@ record_written start x slots i = changed_twice (edited (copied start)) (with_liv
 -- keeping one write
 not_prepared : (start phase : Phase) (v : KeyVersions) → (start ≡ Prepare → ⊥) → kept start phase v ≡ v
 not_prepared Prepare phase v other = absurd (other refl)
-not_prepared Rest phase v other = refl
-not_prepared Resolve phase v other = refl
-not_prepared Capture phase v other = refl
-not_prepared Complete phase v other = refl
+not_prepared _ phase v other = refl
 
 not_prepared_key : (start phase : Phase) (o : Option Cell) (v : Option KeyVersions) → (start ≡ Prepare → ⊥) → kept_key start phase o v ≡ v
 not_prepared_key start phase None v other = refl
@@ -235,10 +232,8 @@ kept_twice_by Capture p v = refl
 kept_twice_by Complete p v = refl
 
 kept_twice : (start phase : Phase) (x : Cell) (o : Option Cell) (v : Option KeyVersions) → kept_key start phase o (kept_key start phase (Some None) v) ≡ kept_key start phase (Some x) v
-kept_twice start phase x None None = refl
-kept_twice start phase x None (Some v) = refl
-kept_twice start phase x (Some y) None = refl
 kept_twice start phase x (Some y) (Some v) = ap (λ (v : KeyVersions). Some v) (kept_twice_by start phase v)
+kept_twice start phase x _ _ = refl
 
 pub kept_more :
     (start phase : Phase) (n : Noted) (ns : List Noted) (before after : VersionsByKey) (q : Bytes) →
