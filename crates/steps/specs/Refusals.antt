@@ -36,11 +36,9 @@ use Rattle.steps.specs.declared.errors.BeginError.TheVariants.{NoSession, NoProc
 
 -- has the checkpoint that runs a cut? between its resolve token and its end
 abbrev pub is_cutting : Phase → Bool
-is_cutting Rest = false
-is_cutting Prepare = false
 is_cutting Resolve = true
 is_cutting Capture = true
-is_cutting Complete = false
+is_cutting _ = false
 
 abbrev pub open_error_text : OpenError → Bytes
 open_error_text opening.NotAnOpening = codes "not an opening"
@@ -162,10 +160,7 @@ is_log_full v = length v.log == log.LOG_RECORDS
 
 abbrev pub is_rest : Phase → Bool
 is_rest Rest = true
-is_rest Prepare = false
-is_rest Resolve = false
-is_rest Capture = false
-is_rest Complete = false
+is_rest _ = false
 
 -- do the entries of the checkpoint leave one by one?
 abbrev pub is_streamed : Way → Bool
@@ -205,11 +200,8 @@ is_held Complete calls = any_open (started_elsewhere Complete) calls
 
 -- does the scan keep it from ending?
 abbrev pub is_scanning : Phase → CheckpointView → Bool
-is_scanning Rest k = false
-is_scanning Prepare k = false
-is_scanning Resolve k = false
 is_scanning Capture k = nat_lt k.cursor k.bound
-is_scanning Complete k = false
+is_scanning _ k = false
 
 -- why the phase doesn't change, want of memory apart
 abbrev pub advance_refusal : CoreView → Option AdvanceError
@@ -220,11 +212,8 @@ advance_refusal v =
     (refused_unless (not (is_log_full v)) advancing.LogFull)))
 
 abbrev pub is_capture : Phase → Bool
-is_capture Rest = false
-is_capture Prepare = false
-is_capture Resolve = false
 is_capture Capture = true
-is_capture Complete = false
+is_capture _ = false
 
 -- why nothing is captured, want of memory apart
 abbrev pub capture_refusal : CoreView → Option CaptureError

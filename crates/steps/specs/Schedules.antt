@@ -1,5 +1,5 @@
 -- What the events of a schedule do to a core, and how they are answered.
-use Rattle.std.specs.Prelude.{◌≡◌, ◌↔◌, ℕ, Bool, true, false, List, [], ◌∷◌, ◌++◌, flat_map, map, option_to_list, slice_index_or, slice_set, Option, Some, None, Ok, Err, OnOk, OnErr, IfOk}
+use Rattle.std.specs.Prelude.{◌≡◌, ◌↔◌, ℕ, Bool, true, false, List, [], ◌∷◌, ◌++◌, flat_map, map, option_to_list, slice_index_or, slice_set, Option, Some, None, Ok, OnOk, OnErr, IfOk}
 use Rattle.std.specs.Prelude.{IsOk, IfSome, IsSome, is_ok, is_some, suc}
 use Rattle.std.specs.declared.result.Result.{Result}
 use Rattle.procedure.specs.Bytes.{Bytes}
@@ -161,15 +161,9 @@ module _ {A : Type 0} where
   abbrev pub begun_by : Event A → Bool → List (Option Begun) → List (Option Begun)
   begun_by e false b = b
   begun_by (event.Begin s n p args) true b = slice_set b s (Some (record { number = n; procedure = p; args = args }))
-  begun_by (event.Step s) true b = b
   begun_by (event.Finish s) true b = slice_set b s None
   begun_by (event.GiveUp s) true b = slice_set b s None
-  begun_by (event.Start k) true b = b
-  begun_by event.Advance true b = b
-  begun_by event.Capture true b = b
-  begun_by event.TakeImage true b = b
-  begun_by event.Reclaim true b = b
-  begun_by event.Abandon true b = b
+  begun_by _ true b = b
 
   -- a call at its place, with what its begin gave and what its answer gives
   abbrev pub answered_call : ℕ → Option Begun → Answer A → List (ℕ × Record)
@@ -177,26 +171,8 @@ module _ {A : Type 0} where
   answered_call s (Some b) a = (a.place, Call s b.number b.procedure b.args a.outcome a.replies) ∷ []
 
   abbrev pub answer_to : Event A → Reply A → List (Option Begun) → List (ℕ × Record)
-  answer_to (event.Begin s n p args) r b = []
-  answer_to (event.Step s) r b = []
-  answer_to (event.GiveUp s) r b = []
-  answer_to (event.Start k) r b = []
-  answer_to event.Advance r b = []
-  answer_to event.Capture r b = []
-  answer_to event.TakeImage r b = []
-  answer_to event.Reclaim r b = []
-  answer_to event.Abandon r b = []
   answer_to (event.Finish s) (reply.Finish (Ok a)) b = answered_call s (slice_index_or b s None) a
-  answer_to (event.Finish s) (reply.Finish (Err e)) b = []
-  answer_to (event.Finish s) (reply.Begin r) b = []
-  answer_to (event.Finish s) (reply.Step r) b = []
-  answer_to (event.Finish s) (reply.GiveUp r) b = []
-  answer_to (event.Finish s) (reply.Start r) b = []
-  answer_to (event.Finish s) (reply.Advance r) b = []
-  answer_to (event.Finish s) (reply.Capture r) b = []
-  answer_to (event.Finish s) (reply.TakeImage took) b = []
-  answer_to (event.Finish s) (reply.Reclaim key) b = []
-  answer_to (event.Finish s) (reply.Abandon r) b = []
+  answer_to _ _ b = []
 
   -- the calls of the accepted finishes, in order, each at the place that its answer gives
   abbrev pub answered_calls : List (Event A) → List (Reply A) → List (Option Begun) → List (ℕ × Record)
@@ -206,13 +182,5 @@ module _ {A : Type 0} where
 
   -- does a reply say that an image was taken?
   abbrev pub is_taken : Reply A → Bool
-  is_taken (reply.Begin r) = false
-  is_taken (reply.Step r) = false
-  is_taken (reply.Finish r) = false
-  is_taken (reply.GiveUp r) = false
-  is_taken (reply.Start r) = false
-  is_taken (reply.Advance r) = false
-  is_taken (reply.Capture r) = false
   is_taken (reply.TakeImage took) = took
-  is_taken (reply.Reclaim key) = false
-  is_taken (reply.Abandon r) = false
+  is_taken _ = false

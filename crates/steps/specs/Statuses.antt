@@ -29,12 +29,10 @@ StatusAtResolve a b U H false (Some x) = (x ≡ b) × (a ≡ b) × H
 
 abbrev pub StatusAtCapture : (a b : Cell) (visited frozen : Bool) → (U : Type 0) → Bool → Option Cell → Type 0
 StatusAtCapture a b true fro U true None = Unit {0}
-StatusAtCapture a b true fro U true (Some x) = ⊥
-StatusAtCapture a b true fro U false s = ⊥
 StatusAtCapture a b false fro U true (Some x) = x ≡ b
 StatusAtCapture a b false fro U true None = (b ≡ None) × (fro ≡ false)
 StatusAtCapture a b false fro U false None = (a ≡ b) × U
-StatusAtCapture a b false fro U false (Some x) = ⊥
+StatusAtCapture a b _ fro U _ _ = ⊥
 
 abbrev pub StatusAtComplete : (visited : Bool) → Bool → Option Cell → Type 0
 StatusAtComplete false av s = Unit {0}
@@ -90,16 +88,14 @@ HadPlace Partial v q = written_between v q ≡ true
 
 -- the status in a phase; of a key without a record, that it held nothing at the cut
 abbrev pub StatusIn : Phase → CoreView → Bytes → Option KeyVersions → Type 0
-StatusIn Rest v q None = Unit {0}
 StatusIn Rest v q (Some k) = StatusAtRest k.available k.stable
-StatusIn Prepare v q None = Unit {0}
 StatusIn Prepare v q (Some k) = StatusAtPrepare (holds v q) (ChangedFromPrepare v q) (UnchangedFromPrepare v q) k.available k.stable
 StatusIn Resolve v q None = held v q ≡ None
 StatusIn Resolve v q (Some k) = StatusAtResolve (holds v q) (held v q) (Unchanged v q) (ChangedFromPrepare v q) k.available k.stable
 StatusIn Capture v q None = held v q ≡ None
 StatusIn Capture v q (Some k) = ScanStatus v q k
-StatusIn Complete v q None = Unit {0}
 StatusIn Complete v q (Some k) = HadPlace v.checkpoint.kind v q → StatusAtComplete true k.available k.stable
+StatusIn _ v q None = Unit {0}
 
 -- the status in the phase of the log
 abbrev pub HasStatus : CoreView → Bytes → Option KeyVersions → Type 0

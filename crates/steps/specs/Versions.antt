@@ -34,11 +34,9 @@ opened_versions None = None
 opened_versions (Some b) = Some (record { live = Some b; stable = None; available = false })
 
 abbrev pub is_late : Phase → Bool
-is_late Rest = false
-is_late Prepare = false
-is_late Resolve = false
 is_late Capture = true
 is_late Complete = true
+is_late _ = false
 
 -- the record of a key, made where there is none
 abbrev pub made_versions : Phase → Option KeyVersions → KeyVersions
@@ -70,10 +68,8 @@ abbrev pub wrote : Phase → Phase → Option KeyVersions → Cell → KeyVersio
 wrote phase start o x = record (copied start (made_versions phase o)) { live = x }
 
 abbrev pub wrote_key : Phase → Phase → Touch → Option Cell → VersionsByKey → VersionsByKey
-wrote_key phase start Nothing x vs = vs
-wrote_key phase start (Reads k) x vs = vs
-wrote_key phase start (Writes k) None vs = vs
 wrote_key phase start (Writes k) (Some x) vs = λ q. cond (same q k) (Some (wrote phase start (vs k) x)) (vs q)
+wrote_key phase start _ _ vs = vs
 
 -- what the key of a touch holds
 abbrev pub found : VersionsByKey → Touch → Cell
@@ -96,13 +92,7 @@ slots_with true slots = max (length slots) (records slots + 1)
 abbrev pub kept : Phase → Phase → KeyVersions → KeyVersions
 kept Prepare Prepare v = record v { stable = None }
 kept Prepare Resolve v = record v { available = true }
-kept Prepare Rest v = v
-kept Prepare Capture v = v
-kept Prepare Complete v = v
-kept Rest p v = v
-kept Resolve p v = v
-kept Capture p v = v
-kept Complete p v = v
+kept _ _ v = v
 
 -- those of a key, where it was written
 abbrev pub kept_key : Phase → Phase → Option Cell → Option KeyVersions → Option KeyVersions

@@ -20,13 +20,7 @@ module _ {A : Type 0} where
   enters (reply.Start r) = is_ok r
   enters (reply.Advance r) = is_ok r
   enters (reply.Abandon r) = is_ok r
-  enters (reply.Begin r) = false
-  enters (reply.Step r) = false
-  enters (reply.Finish r) = false
-  enters (reply.GiveUp r) = false
-  enters (reply.Capture r) = false
-  enters (reply.TakeImage took) = false
-  enters (reply.Reclaim key) = false
+  enters _ = false
 
   abbrev pub any_enters : List (Reply A) → Bool
   any_enters [] = false
@@ -36,17 +30,7 @@ module _ {A : Type 0} where
   abbrev pub visits : List (Reply A) → ℕ
   visits [] = 0
   visits (reply.Capture (Ok Slot) ∷ rs) = suc (visits rs)
-  visits (reply.Capture (Ok Done) ∷ rs) = visits rs
-  visits (reply.Capture (Err e) ∷ rs) = visits rs
-  visits (reply.Begin r ∷ rs) = visits rs
-  visits (reply.Step r ∷ rs) = visits rs
-  visits (reply.Finish r ∷ rs) = visits rs
-  visits (reply.GiveUp r ∷ rs) = visits rs
-  visits (reply.Start r ∷ rs) = visits rs
-  visits (reply.Advance r ∷ rs) = visits rs
-  visits (reply.TakeImage took ∷ rs) = visits rs
-  visits (reply.Reclaim key ∷ rs) = visits rs
-  visits (reply.Abandon r ∷ rs) = visits rs
+  visits (_ ∷ rs) = visits rs
 
 -- where a core enters capture, then handles these events, by none of which the phase changes, and then enters complete, it has
 -- visited exactly as many places as the scan had when it began

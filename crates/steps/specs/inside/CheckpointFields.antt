@@ -3,7 +3,7 @@ use Rattle.std.specs.Prelude.{◌≡◌, ◌≤◌, ◌<◌, ℕ, Bool, true, fa
 use Rattle.procedure.specs.Bytes.{Bytes}
 use Rattle.procedure.specs.Table.{Changes}
 use Rattle.phase.specs.declared.phases.Phase.{Phase}
-use Rattle.phase.specs.declared.phases.Phase.TheVariants.{Rest, Prepare, Resolve, Capture, Complete}
+use Rattle.phase.specs.declared.phases.Phase.TheVariants.{Rest, Capture, Complete}
 use Rattle.image.specs.Headers.{EachKeyOnce, FitsHeader, assembled, chain_digest, map_of}
 use Rattle.image.specs.Images as taken
 use Rattle.image.specs.Images.{changes_of}
@@ -27,10 +27,8 @@ places Partial slots frozen = count frozen
 -- does a checkpoint run whose scan hasn't ended?
 abbrev pub is_unfinished : Phase → Bool
 is_unfinished Rest = false
-is_unfinished Prepare = true
-is_unfinished Resolve = true
-is_unfinished Capture = true
 is_unfinished Complete = false
+is_unfinished _ = true
 
 -- an image as the machine makes it
 abbrev pub machine_image : taken.Image → MachineImage
@@ -56,10 +54,7 @@ module _ {A : Type 0} where
 
   abbrev pub ScansIn : Phase → Checkpoint A → (ℕ → Option Bytes) → (seen wanted : Bytes → Bool) → Changes → Type 0
   ScansIn Capture k spot seen wanted given = IsScan k spot seen wanted given
-  ScansIn Rest k spot seen wanted given = Unit {0}
-  ScansIn Prepare k spot seen wanted given = Unit {0}
-  ScansIn Resolve k spot seen wanted given = Unit {0}
-  ScansIn Complete k spot seen wanted given = Unit {0}
+  ScansIn _ k spot seen wanted given = Unit {0}
 
   -- the checkpoint is the machine's: its number, the last finished one, its kind, the records before its cut, its scan, its image,
   -- and its header

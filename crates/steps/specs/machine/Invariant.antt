@@ -56,29 +56,17 @@ pub record Lives (t : Table) (calls : CallsBySession) (vs : VersionsByKey) : Typ
 abbrev pub starts : Phase → Phase → Bool
 starts Rest Rest = true
 starts Rest Complete = true
-starts Rest Prepare = false
-starts Rest Resolve = false
-starts Rest Capture = false
 starts Prepare Rest = true
 starts Prepare Complete = true
 starts Prepare Prepare = true
-starts Prepare Resolve = false
-starts Prepare Capture = false
 starts Resolve Prepare = true
 starts Resolve Resolve = true
-starts Resolve Rest = false
-starts Resolve Capture = false
-starts Resolve Complete = false
 starts Capture Resolve = true
 starts Capture Capture = true
-starts Capture Rest = false
-starts Capture Prepare = false
-starts Capture Complete = false
 starts Complete Resolve = true
 starts Complete Capture = true
 starts Complete Complete = true
-starts Complete Rest = false
-starts Complete Prepare = false
+starts _ _ = false
 
 abbrev pub Started : Phase → CallsBySession → Type 0
 Started p calls = (s : ℕ) (c : Open) → calls s ≡ Some c → starts p c.start ≡ true
@@ -93,16 +81,14 @@ Early calls q = (s : ℕ) (c : Open) → calls s ≡ Some c → c.start ≡ Prep
 
 -- The status of a record. U says that no open call has changed the key, H that one from prepare has, E that none from prepare has
 abbrev pub status : Phase → (a b : Cell) (visited frozen : Bool) (U H E : Type 0) → Option KeyVersions → Type 0
-status Rest a b vis fro U H E None = Unit {0}
 status Rest a b vis fro U H E (Some v) = StatusAtRest v.available v.stable
-status Prepare a b vis fro U H E None = Unit {0}
 status Prepare a b vis fro U H E (Some v) = StatusAtPrepare a H E v.available v.stable
 status Resolve a b vis fro U H E None = b ≡ None
 status Resolve a b vis fro U H E (Some v) = StatusAtResolve a b U H v.available v.stable
 status Capture a b vis fro U H E None = b ≡ None
 status Capture a b vis fro U H E (Some v) = StatusAtCapture a b vis fro U v.available v.stable
-status Complete a b vis fro U H E None = Unit {0}
 status Complete a b vis fro U H E (Some v) = StatusAtComplete vis v.available v.stable
+status _ a b vis fro U H E None = Unit {0}
 
 -- the scan has gone past the key: visited, or not among those that a scan of all has to visit
 abbrev pub passed : Bool → (visited bound : Bytes → Bool) → Bytes → Bool
@@ -141,10 +127,8 @@ pub record ScanKeeps (kind : Kind) (u : Table) (visited bound frozen : Bytes →
 
 abbrev pub ScanKeepsIn : Phase → Kind → Table → (visited bound frozen : Bytes → Bool) → Changes → Type 0
 ScanKeepsIn Capture kind u visited bound frozen given = ScanKeeps kind u visited bound frozen given
-ScanKeepsIn Rest kind u visited bound frozen given = Unit {0}
-ScanKeepsIn Prepare kind u visited bound frozen given = Unit {0}
-ScanKeepsIn Resolve kind u visited bound frozen given = Unit {0}
 ScanKeepsIn Complete kind u visited bound frozen given = (q : Bytes) → bound q ≡ true → visited q ≡ true
+ScanKeepsIn _ kind u visited bound frozen given = Unit {0}
 
 -- a finished image
 pub record IsFinishedImage (c : List Procedure) (t : Table) (h : List Record) (f : ℕ) (i : MachineImage) : Type 0 where

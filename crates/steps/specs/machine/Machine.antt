@@ -82,10 +82,8 @@ note None l = Some l
 note (Some x) l = Some x
 
 abbrev pub noted : Touch → Option Cell → VersionsByKey → (Bytes → Option Cell) → Bytes → Option Cell
-noted Nothing x vs u = u
-noted (Reads k) x vs u = u
-noted (Writes k) None vs u = u
 noted (Writes k) (Some x) vs u = λ q. cond (same q k) (note (u k) (live_version (vs k))) (u q)
+noted _ _ vs u = u
 
 -- two calls may both touch the key only by reading
 abbrev pub clear : Touch → Front → Type 0

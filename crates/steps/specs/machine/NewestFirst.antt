@@ -6,7 +6,7 @@ use Rattle.procedure.specs.Table.{Table, Changes, value_at, change_at, merged}
 use Rattle.procedure.specs.Procedures.{Procedure}
 use Rattle.procedure.specs.Runs.{whole, committed}
 use Rattle.phase.specs.declared.phases.Phase.{Phase}
-use Rattle.phase.specs.declared.phases.Phase.TheVariants.{Rest, Prepare, Resolve, Capture, Complete}
+use Rattle.phase.specs.declared.phases.Phase.TheVariants.{Rest, Resolve, Complete}
 use Rattle.image.specs.declared.images.Kind.{Kind}
 use Rattle.image.specs.declared.images.Kind.TheVariants.{Full, Partial}
 use Rattle.commitlog.specs.Records.{Record, Token, Call}
@@ -66,18 +66,11 @@ before n (Call s m p args o r ∷ h) = before n h
 abbrev pub history_resolves : ℕ → List Record → Type 0
 history_resolves n [] = ⊥
 history_resolves n (Token Resolve m ∷ h) = (m ≡ n) ⊎ history_resolves n h
-history_resolves n (Token Rest m ∷ h) = history_resolves n h
-history_resolves n (Token Prepare m ∷ h) = history_resolves n h
-history_resolves n (Token Capture m ∷ h) = history_resolves n h
-history_resolves n (Token Complete m ∷ h) = history_resolves n h
-history_resolves n (Call s m p a o r ∷ h) = history_resolves n h
+history_resolves n (_ ∷ h) = history_resolves n h
 
 abbrev pub last_finished_at : Phase → ℕ → ℕ → ℕ
 last_finished_at Complete n m = n
-last_finished_at Rest n m = m
-last_finished_at Prepare n m = m
-last_finished_at Resolve n m = m
-last_finished_at Capture n m = m
+last_finished_at _ n m = m
 
 -- the last checkpoint whose complete token is there
 unfoldable pub history_last_finished : List Record → ℕ

@@ -5,25 +5,15 @@ use Rattle.image.specs.declared.images.Kind.TheVariants.{Full, Partial}
 use Rattle.procedure.specs.Procedures.{Procedure}
 use Rattle.procedure.specs.Table.{Table, no_table, merged}
 use Rattle.steps.specs.machine.NewestFirst.{IsLegalHistory, IsOrderlyHistory, IsCyclicHistory, before, at, MachineImage, IsFull, IsPartial}
-use Rattle.steps.specs.machine.Machine.{Open, State, Goes, Begins, Steps, Commits, Aborts, Gives_up, Starts, Resolves, Captures, Visits, Completes, Rests, Reclaims, Abandons, Runs, none, more, initial, answer}
+use Rattle.steps.specs.machine.Machine.{Open, State, Goes, Begins, Commits, Aborts, Gives_up, Runs, none, more, initial, answer}
 use Rattle.steps.specs.Drives.{calls_of}
 use Rattle.steps.specs.CoreViews.{Begun}
 
 -- the answers of the accepted finishes, newest first
 abbrev pub with_answer : {w x : State} → Goes w x → List Record → List Record
-with_answer (Begins s n p args m) l = l
-with_answer (Steps s c m) l = l
 with_answer (Commits s c i e z) l = answer s c ∷ l
 with_answer (Aborts s c i e z) l = answer s c ∷ l
-with_answer (Gives_up s c i) l = l
-with_answer (Starts k e) l = l
-with_answer (Resolves e a) l = l
-with_answer (Captures b e a k) l = l
-with_answer (Visits k v m) l = l
-with_answer (Completes e d) l = l
-with_answer (Rests e a) l = l
-with_answer (Reclaims k v m) l = l
-with_answer (Abandons e) l = l
+with_answer _ l = l
 
 abbrev pub answers : {a w : State} → Runs a w → List Record
 answers none = []
@@ -31,18 +21,10 @@ answers (more r g) = with_answer g (answers r)
 
 abbrev pub open_after : {w x : State} → Goes w x → (ℕ → Option Begun) → ℕ → Option Begun
 open_after (Begins s n p args m) b t = cond (t == s) (Some (record { number = n; procedure = p; args = args })) (b t)
-open_after (Steps s c m) b t = b t
 open_after (Commits s c i e z) b t = cond (t == s) None (b t)
 open_after (Aborts s c i e z) b t = cond (t == s) None (b t)
 open_after (Gives_up s c i) b t = cond (t == s) None (b t)
-open_after (Starts k e) b t = b t
-open_after (Resolves e a) b t = b t
-open_after (Captures d e a k) b t = b t
-open_after (Visits k v m) b t = b t
-open_after (Completes e d) b t = b t
-open_after (Rests e a) b t = b t
-open_after (Reclaims k v m) b t = b t
-open_after (Abandons e) b t = b t
+open_after _ b t = b t
 
 -- the begin that opened each session's call
 abbrev pub open_of : {a w : State} → Runs a w → ℕ → Option Begun
