@@ -5,7 +5,7 @@ use Rattle.std.proofs.lemmas.Bool.{eq-eqb}
 use Rattle.commitlog.specs.Histories.{code_of, IsAbove}
 use Rattle.commitlog.specs.Records.{Record}
 use Rattle.phase.specs.declared.phases.Phase.{Phase}
-use Rattle.phase.specs.declared.phases.Phase.TheVariants.{Rest, Prepare, Resolve, Capture, Complete}
+use Rattle.phase.specs.declared.phases.Phase.TheVariants.{Prepare}
 use Rattle.procedure.proofs.Base.{change_at-none, value_at-merged, same_table}
 use Rattle.procedure.proofs.Ending.{front_whole}
 use Rattle.procedure.proofs.Frame.{front_frame}
@@ -128,14 +128,7 @@ module _ (cat : List Procedure) (t : Table) (calls : CallsBySession) (vs : Versi
 
   kept_live : (st p : Phase) (v : KeyVersions) → (kept st p v).live ≡ v.live
   kept_live Prepare Prepare v = refl
-  kept_live Prepare Resolve v = refl
-  kept_live Prepare Rest v = refl
-  kept_live Prepare Capture v = refl
-  kept_live Prepare Complete v = refl
-  kept_live Rest p v = refl
-  kept_live Resolve p v = refl
-  kept_live Capture p v = refl
-  kept_live Complete p v = refl
+  kept_live _ _ v = refl
 
   commit_table :
       (st p : Phase) (q : Bytes) → Unchanged (put calls s None) q → (o : Option Cell) → change_at c.machine.changes q ≡ o → live_version (kept_key st p o (vs q)) ≡ changed_or o (value_at t q)

@@ -3,7 +3,7 @@ use Rattle.std.proofs.Common.{◌≡◌, ℕ, Bool, true, false, cond, ◌||◌,
 use Rattle.std.specs.Prelude.{◌==◌}
 use Rattle.std.proofs.lemmas.Bool.{eq-eqb}
 use Rattle.phase.specs.declared.phases.Phase.{Phase}
-use Rattle.phase.specs.declared.phases.Phase.TheVariants.{Rest, Prepare, Resolve, Capture, Complete}
+use Rattle.phase.specs.declared.phases.Phase.TheVariants.{Rest}
 use Rattle.procedure.proofs.Base.{change_at-none}
 use Rattle.procedure.specs.Bytes.{Bytes, Cell, same}
 use Rattle.procedure.specs.Needs.{Touch, Nothing, Reads, Writes}
@@ -48,10 +48,7 @@ initial_good cat t =
 
 same_phase : (p : Phase) → starts p p ≡ true
 same_phase Rest = refl
-same_phase Prepare = refl
-same_phase Resolve = refl
-same_phase Capture = refl
-same_phase Complete = refl
+same_phase _ = refl
 
 module _ (w : State) (good : Invariant w) where
   module _ (s n p : ℕ) (args : List Bytes) (may : MayBegin w s n p args) where

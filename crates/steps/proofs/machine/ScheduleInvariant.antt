@@ -8,7 +8,7 @@ use Rattle.commitlog.specs.Records.{Record, Token, Call}
 use Rattle.image.specs.Merges.{is_full}
 use Rattle.image.specs.declared.images.Kind.TheVariants.{Full, Partial}
 use Rattle.phase.specs.declared.phases.Phase.{Phase}
-use Rattle.phase.specs.declared.phases.Phase.TheVariants.{Rest, Prepare, Resolve, Capture, Complete}
+use Rattle.phase.specs.declared.phases.Phase.TheVariants.{Prepare, Resolve, Capture}
 use Rattle.procedure.proofs.Base.{value_at-merged, value_at-no_table, same_table}
 use Rattle.procedure.specs.Bytes.{Bytes, Cell}
 use Rattle.procedure.specs.Procedures.{Procedure}

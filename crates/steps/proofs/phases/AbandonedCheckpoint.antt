@@ -7,7 +7,7 @@ use Rattle.procedure.specs.Bytes.{Bytes, Cell}
 use Rattle.phase.specs.Phases as phases
 use Rattle.phase.specs.Phases.{Starts}
 use Rattle.phase.specs.declared.phases.Phase.{Phase}
-use Rattle.phase.specs.declared.phases.Phase.TheVariants.{Rest, Prepare, Resolve, Capture, Complete}
+use Rattle.phase.specs.declared.phases.Phase.TheVariants.{Rest, Resolve, Capture}
 use Rattle.commitlog.specs.Logs.{Log}
 use Rattle.commitlog.specs.Records.{Token}
 use Rattle.commitlog.specs.declared.limits.TheConstants.{LOG_RECORDS}

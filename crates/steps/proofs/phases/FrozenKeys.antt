@@ -4,7 +4,7 @@ use Rattle.procedure.specs.Bytes.{Bytes}
 use Rattle.procedure.specs.Procedures.{Procedure}
 use Rattle.procedure.specs.Table.{Table}
 use Rattle.phase.specs.declared.phases.Phase.{Phase}
-use Rattle.phase.specs.declared.phases.Phase.TheVariants.{Rest, Prepare, Resolve, Capture, Complete}
+use Rattle.phase.specs.declared.phases.Phase.TheVariants.{Complete}
 use Rattle.commitlog.specs.Cuts.{HasCut, cut, finished_below, last_finished, written}
 use Rattle.commitlog.specs.Records.{Record}
 use Rattle.commitlog.proofs.Finished.{base_has_cut}

@@ -30,10 +30,7 @@ of_rank (suc (suc (suc (suc n)))) = Complete
 
 rank_back : (p : Phase) → of_rank (rank p) ≡ p
 rank_back Rest = refl
-rank_back Prepare = refl
-rank_back Resolve = refl
-rank_back Capture = refl
-rank_back Complete = refl
+rank_back _ = refl
 
 same_rank : (p q : Phase) → (rank p == rank q) ≡ true → p ≡ q
 same_rank p q e = sym (rank_back p) ∙ ap of_rank (eqb-true (rank p) (rank q) e) ∙ rank_back q

@@ -5,7 +5,7 @@ use Rattle.std.specs.Option.{option_or}
 use Rattle.std.proofs.lemmas.Bool.{ltb-false}
 use Rattle.phase.specs.Phases.{successor}
 use Rattle.phase.specs.declared.phases.Phase.{Phase}
-use Rattle.phase.specs.declared.phases.Phase.TheVariants.{Rest, Prepare, Resolve, Capture, Complete}
+use Rattle.phase.specs.declared.phases.Phase.TheVariants.{Capture, Complete}
 use Rattle.commitlog.specs.Histories.{phase_of}
 use Rattle.steps.specs.Checkpointing.{CapturesAs}
 use Rattle.steps.specs.CoreViews.{CheckpointView, CoreView}
@@ -108,17 +108,7 @@ module _ {A : Type 0} where
 
   first_more : (r : Reply A) (rs : List (Reply A)) → visits (r ∷ rs) ≡ visits (r ∷ []) + visits rs
   first_more (reply.Capture (Ok Slot)) rs = omega arith
-  first_more (reply.Capture (Ok Done)) rs = omega arith
-  first_more (reply.Capture (Err e)) rs = omega arith
-  first_more (reply.Begin r) rs = omega arith
-  first_more (reply.Step r) rs = omega arith
-  first_more (reply.Finish r) rs = omega arith
-  first_more (reply.GiveUp r) rs = omega arith
-  first_more (reply.Start r) rs = omega arith
-  first_more (reply.Advance r) rs = omega arith
-  first_more (reply.TakeImage took) rs = omega arith
-  first_more (reply.Reclaim key) rs = omega arith
-  first_more (reply.Abandon r) rs = omega arith
+  first_more _ rs = omega arith
 
   all : (es : List (Event A)) (hs : List (Handled A)) (old new : CoreView) → HandlesAll es old new hs → any_enters (replies_in hs) ≡ false → Moves old new (visits (replies_in hs))
   all [] [] old new h f = nothing old new (sym h)

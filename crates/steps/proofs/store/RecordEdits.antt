@@ -8,7 +8,7 @@ use Rattle.record_store.proofs.ChangedKeys.{has-with_key}
 use Rattle.procedure.specs.Bytes.{Bytes, Cell, same}
 use Rattle.procedure.proofs.Base.{keys, same_pointwise, same_refl}
 use Rattle.phase.specs.declared.phases.Phase.{Phase}
-use Rattle.phase.specs.declared.phases.Phase.TheVariants.{Rest, Prepare, Resolve, Capture, Complete}
+use Rattle.phase.specs.declared.phases.Phase.TheVariants.{Prepare}
 use Rattle.record_store.specs.Stores.{StoreRecord, Slots, HasKeysOnce, Finds, changed, record_at, live_at, new_record, with_record, with_live, with_stable, with_copy, with_available, with_aside}
 use Rattle.record_store.specs.Versions as stored
 use Rattle.record_store.proofs.Versions.{no_key, version_of-aside, version_of-changed, version_of-created, version_none, version_found, record_found, finds_record, once_created}
@@ -222,14 +222,7 @@ none_kept start phase slots key q finds =
 
 kept_twice_by : (start phase : Phase) (v : KeyVersions) → kept start phase (kept start phase v) ≡ kept start phase v
 kept_twice_by Prepare Prepare v = refl
-kept_twice_by Prepare Resolve v = refl
-kept_twice_by Prepare Rest v = refl
-kept_twice_by Prepare Capture v = refl
-kept_twice_by Prepare Complete v = refl
-kept_twice_by Rest p v = refl
-kept_twice_by Resolve p v = refl
-kept_twice_by Capture p v = refl
-kept_twice_by Complete p v = refl
+kept_twice_by _ _ v = refl
 
 kept_twice : (start phase : Phase) (x : Cell) (o : Option Cell) (v : Option KeyVersions) → kept_key start phase o (kept_key start phase (Some None) v) ≡ kept_key start phase (Some x) v
 kept_twice start phase x (Some y) (Some v) = ap (λ (v : KeyVersions). Some v) (kept_twice_by start phase v)
