@@ -13,7 +13,7 @@ ghost use Rattle.record_store.specs.ChangedSets.{empty_set, union};
 ghost use Rattle.steps.specs.inside.CoreFields.{restarted_call};
 ghost use Rattle.steps.specs.CutImages.{IsTaken};
 ghost use Rattle.steps.specs.Checkpointing.{AdvancesTo, abandoned, entered, header_taken, started, taken};
-ghost use Rattle.steps.specs.Refusals.{Answers, abandon_refusal, advance_refusal, is_scanning, start_refusal};
+ghost use Rattle.steps.specs.Refusals.{Answers, abandon_refusal, advance_refusal, is_held, is_log_full, is_scanning, start_refusal};
 ghost use Rattle.steps.specs.declared.checkpoints.Way.TheVariants.{Streamed, Whole};
 ghost use Rattle.steps.specs.declared.errors.AbandonError.TheVariants as abandoning;
 ghost use Rattle.steps.specs.declared.errors.AdvanceError.TheVariants as advancing;
@@ -88,15 +88,23 @@ fn restart_all<A: Allocator>(calls: &mut Vec<Option<OpenCall<A>>, A>)
 }
 
 impl<A: Allocator> Core<A> {
+    /// Whether the log has no room for another record.
+    fn is_log_full(&self) -> bool
+        ensures full { result ≡ is_log_full self.now }
+        ensures most { length self.now.log ≤ LOG_RECORDS }
+    {
+        self.log.is_full()
+    }
+
     /// Whether a checkpoint may begin, out of memory apart.
     fn may_start(&self) -> Result<(), StartError>
         ensures ok { OnOk result (start_refusal self.now ≡ None) }
         ensures few { OnOk result (length self.now.log ≤ LOG_RECORDS) }
         ensures err { IfErr result (λ e. start_refusal self.now ≡ Some e) }
     {
-        match self.phase {
+        match self.phase() {
             Phase::Rest if self.checkpoint.is_waiting() => Err(StartError::NotTaken),
-            Phase::Rest if self.log.is_full() => Err(StartError::LogFull),
+            Phase::Rest if self.is_log_full() => Err(StartError::LogFull),
             Phase::Rest => Ok(()),
             _ => Err(StartError::NotAtRest),
         }
@@ -158,22 +166,29 @@ impl<A: Allocator> Core<A> {
         }
     }
 
+    /// Whether an open call keeps the phase from ending.
+    fn is_held(&self) -> bool
+        ensures { result ≡ is_held (phase_of self.now.log) self.now.calls }
+    {
+        self.active.may_leave(self.phase).is_err()
+    }
+
     /// Whether the phase may change, out of memory apart.
     fn may_advance(&self) -> Result<(), AdvanceError>
         ensures ok { OnOk result (advance_refusal self.now ≡ None) }
         ensures err { IfErr result (λ e. advance_refusal self.now ≡ Some e) }
     {
-        match self.phase {
+        match self.phase() {
             Phase::Rest => return Err(AdvanceError::AtRest),
             _ => {}
         }
-        if self.active.may_leave(self.phase).is_err() {
+        if self.is_held() {
             return Err(AdvanceError::StillActive);
         }
         if self.is_scanning() {
             return Err(AdvanceError::NotScanned);
         }
-        if self.log.is_full() {
+        if self.is_log_full() {
             return Err(AdvanceError::LogFull);
         }
         Ok(())
@@ -212,7 +227,7 @@ impl<A: Allocator> Core<A> {
         ensures ok { OnOk result (abandon_refusal self.now ≡ None) }
         ensures err { IfErr result (λ e. abandon_refusal self.now ≡ Some e) }
     {
-        match self.phase {
+        match self.phase() {
             Phase::Resolve | Phase::Capture => {}
             _ => return Err(AbandonError::NotAbandonable),
         }
@@ -220,7 +235,7 @@ impl<A: Allocator> Core<A> {
             Way::Whole => {}
             Way::Streamed => return Err(AbandonError::WrongWay),
         }
-        if self.log.is_full() {
+        if self.is_log_full() {
             return Err(AbandonError::LogFull);
         }
         Ok(())

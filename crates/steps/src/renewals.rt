@@ -14,7 +14,7 @@ ghost use Rattle.record_store.specs.Stores.{live_count, record_at, record_at_res
 ghost use Rattle.steps.specs.CoreViews.{table_now};
 ghost use Rattle.steps.specs.Openings.{IsOpened};
 ghost use Rattle.steps.specs.Refusals.{Answers};
-ghost use Rattle.steps.specs.Renewals.{next_opening, no_core, renew_refusal};
+ghost use Rattle.steps.specs.Renewals.{is_busy, next_opening, no_core, renew_refusal};
 ghost use Rattle.steps.specs.Versions.{live_version, versions_in};
 ghost use Rattle.steps.specs.inside.LiveEntries.{live_entry};
 ghost use Rattle.steps.specs.inside.Openings.{IsFilledBy};
@@ -100,16 +100,23 @@ fn live_entries<A: Allocator + Clone>(
 }
 
 impl<A: Allocator> Core<A> {
+    /// Whether a call of any session is open.
+    fn is_busy(&self) -> bool
+        ensures { result ≡ is_busy self.now.calls }
+    {
+        !are_free(&self.calls)
+    }
+
     /// Whether a new core may go on from it, out of memory apart.
     fn may_renew(&self) -> Result<(), RenewError>
         ensures ok { OnOk result (renew_refusal self.now ≡ None) }
         ensures err { IfErr result (λ e. renew_refusal self.now ≡ Some e) }
     {
-        match self.phase {
+        match self.phase() {
             Phase::Rest => {}
             _ => return Err(RenewError::NotAtRest),
         }
-        if !are_free(&self.calls) {
+        if self.is_busy() {
             return Err(RenewError::SessionBusy);
         }
         if self.checkpoint.is_waiting() {

@@ -1,5 +1,5 @@
 -- When a phase may be left, by the start phases and by the view.
-use Rattle.std.proofs.Common.{◌≡◌, Ok, Err, IsOk, is_err, ℕ, zero, suc, Bool, true, false, not, ◌||◌, List, [], ◌∷◌, Option, Some, None, map, option_map, refl, sym, ap, ◌∙◌, subst, true≢false}
+use Rattle.std.proofs.Common.{◌≡◌, ◌↔◌, Ok, Err, IsOk, is_err, ℕ, zero, suc, Bool, true, false, not, ◌||◌, List, [], ◌∷◌, Option, Some, None, map, option_map, refl, sym, ap, ◌∙◌, subst, true≢false}
 use Rattle.std.specs.Prelude.{◌==◌}
 use Rattle.std.specs.Option.{option_or}
 use Rattle.std.specs.declared.result.Result.{Result}
@@ -18,7 +18,6 @@ use Rattle.steps.specs.declared.errors.AdvanceError.TheVariants as refused
 use Rattle.steps.proofs.sessions.BarredTouches.{any_none}
 use Rattle.steps.proofs.machine.OpenCalls.{none_some, same_Some}
 use Rattle.steps.proofs.sessions.AcceptedCalls.{shown_at}
-use Rattle.steps.proofs.phases.CheckpointRefusals.{not_rest}
 use Rattle.steps.proofs.views.CoreState.{phase_is}
 
 abbrev of_rank : ℕ → Phase
@@ -156,19 +155,7 @@ module _ {A : Type 0} (c : Inside A) (ok : IsCore c) (v : CoreView) (same : view
   held_here : is_held c.phase (view_of c).calls ≡ is_held (phase_of v.log) v.calls
   held_here = ap (λ p. is_held p (view_of c).calls) phase_here ∙ ap (λ (w : CoreView). is_held (phase_of v.log) w.calls) same
 
-  pub not_held : MayLeave c.phase c.active → is_held (phase_of v.log) v.calls ≡ false
-  not_held may = sym held_here ∙ free_phase c ok c.phase may
-
-  pub is_held_here : (MayLeave c.phase c.active → ⊥) → is_held (phase_of v.log) v.calls ≡ true
-  is_held_here never = sym held_here ∙ held_phase c ok c.phase never
-
-  pub runs_here : (c.phase ≡ Rest → ⊥) → is_rest (phase_of v.log) ≡ false
-  runs_here never = ap is_rest (sym phase_here) ∙ not_rest c.phase never
-
-pub never_ok : {X E : Type 0} (r : Result X E) → is_err r ≡ true → IsOk r → ⊥
-never_ok (Ok x) e is = true≢false (sym e)
-never_ok (Err x) e is = let no_ok = is in absurd (cc)
-
-pub surely_ok : {X E : Type 0} (r : Result X E) → is_err r ≡ false → IsOk r
-surely_ok (Ok x) e = refl
-surely_ok (Err x) e = absurd (true≢false e)
+  -- whether a call that started elsewhere is open, by what says whether the phase may be left
+  pub held_as : {X E : Type 0} (r : Result X E) → (IsOk r ↔ MayLeave c.phase c.active) → is_err r ≡ is_held (phase_of v.log) v.calls
+  held_as (Ok x) leaves = sym (free_phase c ok c.phase (leaves.0 refl)) ∙ held_here
+  held_as (Err e) leaves = sym (held_phase c ok c.phase (λ may. let no_ok = leaves.1 may in absurd (cc))) ∙ held_here

@@ -81,7 +81,7 @@ module _ {A : Type 0} (c : Inside A) (ok : IsCore c) (v : CoreView) (same : view
   pub live_is : renew_refusal v ≡ None → (q : Bytes) → live_version (versions_in c.store q) ≡ value_at (table_now v) q
   live_is free q =
       ap live_version (sym (ok.stands.versions q))
-      ∙ (good c ok).lives.table q (λ s o is. none_some (sym (none_open c ok s (none_open_at c ok v same free s)) ∙ is))
+      ∙ (good c ok).lives.table q (λ s o is. none_some (sym (none_open c ok s (none_open_at c v same free s)) ∙ is))
       ∙ ap (λ t. value_at t q) (now_is c ok ∙ ap table_now same)
 
   module _ (free : renew_refusal v ≡ None) (es : List Entry) (holds : (q : Bytes) → change_at (map_of es) q ≡ shown (live_version (versions_in c.store q))) where
