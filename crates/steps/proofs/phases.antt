@@ -1,5 +1,4 @@
 -- The phases of a checkpoint.
-pub mod CheckpointRefusals
 pub mod PhaseEnds
 pub mod AddedToken
 pub mod StartedCheckpoint

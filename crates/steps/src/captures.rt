@@ -240,7 +240,7 @@ impl<A: Allocator + Clone> Core<A> {
         ensures refused { OnErr result (self.new ≡ self.old) }
         ensures refusal { Answers (capture_refusal self.old) capturing.NoMemory result }
     {
-        match self.phase {
+        match self.phase() {
             Phase::Capture => {}
             _ => return Err(CaptureError::NotCapturing),
         }

@@ -150,7 +150,7 @@ impl<A: Allocator + Clone> Core<A> {
         ensures refused { OnErr result (self.new ≡ self.old) }
         ensures refusal { AnswersTo self.old tap.old result }
     {
-        match self.phase {
+        match self.phase() {
             Phase::Capture => {}
             _ => return Err(CaptureToError::NotCapturing),
         }

@@ -1,6 +1,6 @@
 -- A core after its checkpoint was abandoned.
 use Rattle.std.proofs.Common.{◌≡◌, ◌⊎◌, ◌||◌, List, [], ◌∷◌, ◌++◌, Option, Some, None, Vec, inl, inr, map, option_map, length, slice_index_or, refl, sym, ap, ◌∙◌, subst, true≢false, Bool, true, false}
-use Rattle.std.specs.Prelude.{◌==◌}
+use Rattle.std.specs.Option.{option_or}
 use Rattle.std.proofs.Math.ListN.{get_or-map}
 use Rattle.std.proofs.lemmas.List.{length-map}
 use Rattle.procedure.specs.Bytes.{Bytes, Cell}
@@ -10,7 +10,7 @@ use Rattle.phase.specs.declared.phases.Phase.{Phase}
 use Rattle.phase.specs.declared.phases.Phase.TheVariants.{Rest, Resolve, Capture}
 use Rattle.commitlog.specs.Logs.{Log}
 use Rattle.commitlog.specs.Records.{Token}
-use Rattle.commitlog.specs.declared.limits.TheConstants.{LOG_RECORDS}
+use Rattle.commitlog.specs.Histories.{phase_of}
 use Rattle.record_store.proofs.ChangedKeys.{has-union}
 use Rattle.record_store.specs.ChangedSets.{ChangedSets, KeySet, has, empty_set, union}
 use Rattle.record_store.specs.Stores.{Slots, record_at_rest}
@@ -26,8 +26,10 @@ use Rattle.steps.specs.machine.Machine as machine
 use Rattle.steps.specs.machine.Machine.{Abandons, Open, abandon, cleaned_versions, more}
 use Rattle.steps.specs.declared.calls.OpenCall.{OpenCall}
 use Rattle.steps.specs.declared.cores.Core.TheInside.{Inside}
-use Rattle.steps.specs.Refusals.{abandon_refusal}
-use Rattle.steps.proofs.phases.CheckpointRefusals.{abandon_by, abandon_refused}
+use Rattle.steps.specs.Refusals.{abandon_refusal, is_cutting, refused_unless}
+use Rattle.steps.specs.declared.errors.AbandonError.{AbandonError}
+use Rattle.steps.specs.declared.errors.AbandonError.TheVariants as abandoning
+use Rattle.steps.proofs.views.CoreState.{phase_by}
 use Rattle.steps.proofs.phases.AddedToken.{token_last, token_log, token_small}
 use Rattle.steps.proofs.phases.ResolveAndRest.{entered_log, none_in_empty, number_here, rested_versions}
 
@@ -130,9 +132,9 @@ module _ {A : Type 0} where
 
   -- a checkpoint that may be abandoned has a cut, and isn't finished
   pub abandons_from : (c : Inside A) → IsCore c → (v : CoreView) → view_of c ≡ v → abandon_refusal v ≡ None → (c.phase ≡ Resolve) ⊎ (c.phase ≡ Capture)
-  abandons_from c ok v same e = by c.phase refl (sym (abandon_refused c ok v same) ∙ e)
+  abandons_from c ok v same e = by (phase_of v.log) refl _ e
     where
-      by : (p : Phase) → c.phase ≡ p → abandon_by p c.checkpoint.way (length c.log.records == LOG_RECORDS) ≡ None → (c.phase ≡ Resolve) ⊎ (c.phase ≡ Capture)
-      by Resolve is e = inl is
-      by Capture is e = inr is
-      by _ is e = absurd (cc)
+      by : (p : Phase) → phase_of v.log ≡ p → (rest : Option AbandonError) → option_or (refused_unless (is_cutting p) abandoning.NotAbandonable) rest ≡ None → (c.phase ≡ Resolve) ⊎ (c.phase ≡ Capture)
+      by Resolve is rest e = inl (phase_by c ok same is)
+      by Capture is rest e = inr (phase_by c ok same is)
+      by _ is rest e = absurd (cc)

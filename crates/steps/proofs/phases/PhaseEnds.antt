@@ -18,7 +18,7 @@ use Rattle.steps.specs.declared.errors.AdvanceError.TheVariants as refused
 use Rattle.steps.proofs.sessions.BarredTouches.{any_none}
 use Rattle.steps.proofs.machine.OpenCalls.{none_some, same_Some}
 use Rattle.steps.proofs.sessions.AcceptedCalls.{shown_at}
-use Rattle.steps.proofs.views.CoreState.{phase_is}
+use Rattle.steps.proofs.views.CoreState.{phase_by}
 
 abbrev of_rank : ℕ → Phase
 of_rank zero = Rest
@@ -142,7 +142,7 @@ module _ {A : Type 0} (c : Inside A) (ok : IsCore c) (v : CoreView) (same : view
   pub advances_from : MayGo
   advances_from =
       let free = free_to_advance v p at goes in record {
-        is = phase_is c ok ∙ ap (λ (w : CoreView). phase_of w.log) same ∙ at;
+        is = phase_by c ok same at;
         held = subst (λ (w : CoreView). is_held p w.calls ≡ false) (sym same) free.free;
         scanned = subst (λ (w : CoreView). is_scanning p w.checkpoint ≡ false) (sym same) free.scanned;
       }
@@ -150,7 +150,7 @@ module _ {A : Type 0} (c : Inside A) (ok : IsCore c) (v : CoreView) (same : view
 -- the same by the view
 module _ {A : Type 0} (c : Inside A) (ok : IsCore c) (v : CoreView) (same : view_of c ≡ v) where
   phase_here : c.phase ≡ phase_of v.log
-  phase_here = phase_is c ok ∙ ap (λ (w : CoreView). phase_of w.log) same
+  phase_here = phase_by c ok same refl
 
   held_here : is_held c.phase (view_of c).calls ≡ is_held (phase_of v.log) v.calls
   held_here = ap (λ p. is_held p (view_of c).calls) phase_here ∙ ap (λ (w : CoreView). is_held (phase_of v.log) w.calls) same

@@ -1,8 +1,8 @@
 -- A core after a checkpoint began.
-use Rattle.std.proofs.Common.{◌≡◌, Some, None, suc, ◌+◌, [], ◌∷◌, ◌++◌, refl, sym, ap, ◌∙◌, arith, true≢false}
+use Rattle.std.proofs.Common.{◌≡◌, Some, None, suc, ◌+◌, [], ◌∷◌, ◌++◌, refl, sym, ap, ◌∙◌, arith, true≢false, Bool, true, false, not, ◌&&◌, Option, is_none, length}
 use Rattle.phase.specs.declared.phases.Phase.TheVariants.{Rest, Prepare}
 use Rattle.commitlog.specs.Logs.{Log}
-use Rattle.commitlog.specs.Histories.{number_of}
+use Rattle.commitlog.specs.Histories.{number_of, phase_of}
 use Rattle.commitlog.specs.Records.{Token}
 use Rattle.image.specs.declared.images.Kind.{Kind}
 use Rattle.steps.specs.inside.CoreFields.{IsCore, view_of}
@@ -12,6 +12,42 @@ use Rattle.steps.specs.machine.Machine.{Starts, more, start}
 use Rattle.steps.specs.declared.checkpoints.Way.{Way}
 use Rattle.steps.specs.declared.cores.Core.TheInside.{Inside}
 use Rattle.steps.proofs.phases.AddedToken.{number_is, token_core}
+use Rattle.std.specs.Prelude.{◌==◌}
+use Rattle.std.specs.Option.{option_or}
+use Rattle.phase.specs.declared.phases.Phase.{Phase}
+use Rattle.commitlog.specs.declared.limits.TheConstants.{LOG_RECORDS}
+use Rattle.image.specs.Images.{Image}
+use Rattle.image.specs.declared.headers.Header.{Header}
+use Rattle.steps.specs.Refusals.{is_rest, start_refusal, refused_unless}
+use Rattle.steps.specs.declared.errors.StartError.TheVariants as starting
+use Rattle.steps.proofs.views.CoreState.{phase_by}
+
+-- WHERE ONE MAY BEGIN
+
+first_of : {E : Type 0} (b : Bool) (e : E) (rest : Option E) → option_or (refused_unless b e) rest ≡ None → b ≡ true
+first_of true e rest is = refl
+first_of false e rest is = absurd (cc)
+
+rest_is : (p : Phase) → is_rest p ≡ true → p ≡ Rest
+rest_is Rest e = refl
+rest_is _ e = absurd (true≢false (sym e))
+
+untaken :
+    (b : Bool) (w : Option Image) (h : Option Header) (full : Bool) →
+    option_or (refused_unless b starting.NotAtRest) (option_or (refused_unless (is_none w && is_none h) starting.NotTaken) (refused_unless (not full) starting.LogFull)) ≡ None → h ≡ None
+untaken true None None full e = refl
+untaken _ _ _ full e = absurd (cc)
+
+module _ {A : Type 0} (c : Inside A) (ok : IsCore c) (v : CoreView) (same : view_of c ≡ v) (starts : start_refusal v ≡ None) where
+  -- where a checkpoint may begin none runs
+  pub starts_at_rest : c.phase ≡ Rest
+  starts_at_rest = phase_by c ok same (rest_is (phase_of v.log) (first_of (is_rest (phase_of v.log)) starting.NotAtRest _ starts))
+
+  -- and no header waits
+  pub starts_untaken : c.checkpoint.header ≡ None
+  starts_untaken = ap (λ (w : CoreView). w.checkpoint.header) same ∙ untaken (is_rest (phase_of v.log)) v.checkpoint.waiting v.checkpoint.header (length v.log == LOG_RECORDS) starts
+
+-- IT BEGINS
 
 module _ {A : Type 0} (c : Inside A) (ok : IsCore c) (kind : Kind) (way : Way) (log : Log) (at_rest : c.phase ≡ Rest) (untaken : c.checkpoint.header ≡ None) (log_is : log.records ≡ c.log.records ++ Token Prepare (c.checkpoint.number + 1) ∷ []) where
   abbrev after_start : Inside A

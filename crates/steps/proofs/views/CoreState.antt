@@ -15,6 +15,7 @@ use Rattle.steps.specs.declared.reclaiming.Aside.{Aside}
 use Rattle.procedure.specs.Runs.{at_start}
 use Rattle.procedure.specs.declared.limits.TheConstants.{SESSIONS}
 use Rattle.phase.specs.Phases.{Starts}
+use Rattle.phase.specs.declared.phases.Phase.{Phase}
 use Rattle.commitlog.specs.Histories as log
 use Rattle.commitlog.specs.Histories.{code_of, Takes, IsAbove, IsCyclic, IsLegal, IsOrderly}
 use Rattle.steps.proofs.log.SchedulePromises.{all_schedules}
@@ -48,6 +49,9 @@ module _ {A : Type 0} where
 
     pub phase_is : c.phase ≡ log.phase_of c.log.records
     phase_is = sym ok.stands.phase ∙ sym good.lawful.phase ∙ sym (phase_of-reverse ok.world.log) ∙ ap log.phase_of ok.stands.log
+
+    pub phase_by : {v : CoreView} {p : Phase} → view_of c ≡ v → log.phase_of v.log ≡ p → c.phase ≡ p
+    phase_by same e = phase_is ∙ ap (λ (v : CoreView). log.phase_of v.log) same ∙ e
 
     pub last_is : (s : ℕ) → back.history_last_number s ok.world.log ≡ log.last_number s c.log.records
     last_is s = sym (last_number-reverse s ok.world.log) ∙ ap (log.last_number s) ok.stands.log

@@ -1,36 +1,20 @@
-use Rattle.std.proofs.Common.{◌≤◌, inl, inr, [], append-nil, refl, sym, subst, ℕ}
+use Rattle.std.proofs.Common.{rules, arith, ◌∙◌, ◌≤◌, inr, sym, subst, ℕ}
 use Rattle.image.specs.declared.limits.TheConstants.{ENTRIES}
-use Rattle.pipe.specs.Rings as ring
 use Rattle.steps.specs.inside.Spots.{key_of_spot}
 use Rattle.steps.proofs.scans.Spots.{once_there, same_changed}
 use Rattle.steps.proofs.scans.CapturingCore.{capture_core, capture_view, refused_to, scan_here, unsent_core, visit_to}
 use Rattle.steps.proofs.scans.CompletedImage.{few_given}
-use Rattle.steps.proofs.phases.CheckpointRefusals.{capture_to_elsewhere, capture_to_free, capture_to_whole}
+use Rattle.steps.proofs.views.CoreState.{phase_by}
 use Rattle.steps.proofs.cores.Core.capture_to.Goals as goal
 
-pub returns-in_default : goal.returns-in_default
-returns-in_default g c = record {
-  captured = tt;
-  ring = ((refl, refl, refl, refl), refl);
-  sent = ([], sym (append-nil c.args.self.now.checkpoint.given), sym (append-nil (ring.sent c.args.tap.now)));
-  room = tt;
-  refused = refl;
-  refusal = inl (capture_to_elsewhere c.self.inside c.self.invariant c.args.self.now c.self.view_is c.in_default.not-Capture);
-}
-
-pub returns-in-Whole-clause-refusal : goal.returns-in-Whole-clause-refusal
-returns-in-Whole-clause-refusal g c = inl (capture_to_whole c.self.inside c.self.invariant c.args.self.now c.self.view_is c.in-Capture.is c.in-Whole.is)
-
-pub returns-then-self-clause-refusal : goal.returns-then-self-clause-refusal
-returns-then-self-clause-refusal g c = capture_to_free c.self.inside c.self.invariant c.args.self.now c.self.view_is c.in-Capture.is c.in-Streamed.is
-
 pub send_spot-requires : goal.send_spot-requires
-send_spot-requires g c = record {
-  found = c.spot_at-spot.ensures.found;
-  few =
-      subst (λ (n : ℕ). n ≤ ENTRIES) (sym ((scan_here c.self.inside c.self.invariant c.in-Capture.is).count c.in-Streamed.is))
-      (few_given c.self.inside c.self.invariant c.in-Capture.is c.len-records.ensures.most);
-}
+send_spot-requires g c =
+    let here = phase_by c.self.inside c.self.invariant c.self.view_is (sym c.phase.ensures.value ∙ c.in-Capture.is) in record {
+      found = c.spot_at-spot.ensures.found;
+      few =
+          subst (λ (n : ℕ). n ≤ ENTRIES) (sym ((scan_here c.self.inside c.self.invariant here).count c.in-Streamed.is))
+          (few_given c.self.inside c.self.invariant here c.len-records.ensures.most);
+    }
 
 pub invariant_of-self : goal.invariant_of-self
 invariant_of-self g c =
@@ -40,8 +24,8 @@ invariant_of-self g c =
 pub returns-in-Err-clause-refusal : goal.returns-in-Err-clause-refusal
 returns-in-Err-clause-refusal g c =
     inr (
-      capture_to_free c.self.inside c.self.invariant c.args.self.now c.self.view_is c.in-Capture.is c.in-Streamed.is,
-      refused_to c.self.inside c.self.invariant c.in-Capture.is (key_of_spot c.spot_at-spot.result) c.spot_at-spot.ensures.key c.args.tap.now c.in-Err.refused c.in-Err.ensures.why
+      search rules,
+      refused_to c.self.inside c.self.invariant (phase_by c.self.inside c.self.invariant c.self.view_is (sym c.phase.ensures.value ∙ c.in-Capture.is)) (key_of_spot c.spot_at-spot.result) c.spot_at-spot.ensures.key c.args.tap.now c.in-Err.refused c.in-Err.ensures.why
           c.args.self.now c.self.view_is,
     )
 
@@ -50,16 +34,19 @@ invariant_of-self-2 g c =
     same_changed _ c.spot_at-spot.new.changed c.spot_at-spot.ensures.same
     (capture_core c.self.inside c.self.invariant c.send_spot.new.store c.self.inside.checkpoint.captured c.send_spot.new.given c.send_spot.new.tally (key_of_spot c.spot_at-spot.result)
     (visit_to c.self.inside c.self.invariant c.send_spot.new.store c.self.inside.checkpoint.captured c.send_spot.new.given c.send_spot.new.tally (key_of_spot c.spot_at-spot.result)
-    c.in-Streamed.is c.in-Capture.is
+    c.in-Streamed.is (phase_by c.self.inside c.self.invariant c.self.view_is (sym c.phase.ensures.value ∙ c.in-Capture.is))
     c.if-self.false c.spot_at-spot.ensures.key (once_there c.self.inside.store c.spot_at-spot.result c.spot_at-spot.ensures.found) c.in-Ok.ensures.visits c.in-Ok.ensures.sent))
 
 pub returns-clause-captured : goal.returns-clause-captured
 returns-clause-captured g c =
     capture_view c.self.inside c.self.invariant c.send_spot.new.store c.self.inside.checkpoint.captured c.send_spot.new.given c.send_spot.new.tally (key_of_spot c.spot_at-spot.result)
     (visit_to c.self.inside c.self.invariant c.send_spot.new.store c.self.inside.checkpoint.captured c.send_spot.new.given c.send_spot.new.tally (key_of_spot c.spot_at-spot.result)
-    c.in-Streamed.is c.in-Capture.is
+    c.in-Streamed.is (phase_by c.self.inside c.self.invariant c.self.view_is (sym c.phase.ensures.value ∙ c.in-Capture.is))
     c.if-self.false c.spot_at-spot.ensures.key (once_there c.self.inside.store c.spot_at-spot.result c.spot_at-spot.ensures.found) c.in-Ok.ensures.visits c.in-Ok.ensures.sent)
     c.args.self.now c.self.view_is
 
-pub returns-clause-refusal : goal.returns-clause-refusal
-returns-clause-refusal g c = capture_to_free c.self.inside c.self.invariant c.args.self.now c.self.view_is c.in-Capture.is c.in-Streamed.is
+pub overflow_add-self : goal.overflow_add-self
+overflow_add-self g c =
+    let here = phase_by c.self.inside c.self.invariant c.self.view_is (sym c.phase.ensures.value ∙ c.in-Capture.is) in
+    let within = (scan_here c.self.inside c.self.invariant here).within in
+    omega (arith, within)

@@ -1,14 +1,11 @@
-use Rattle.std.proofs.Common.{ap, ◌∙◌}
-use Rattle.commitlog.specs.Histories.{phase_of}
 use Rattle.record_store.specs.ChangedSets.{has}
-use Rattle.steps.specs.CoreViews.{CoreView}
 use Rattle.steps.proofs.reclaim.ReclaimedCore.{learnt_by, none_core, none_key, nothing_gone, reasons_here, some_core, some_key, some_view}
-use Rattle.steps.proofs.views.CoreState.{phase_is}
+use Rattle.steps.proofs.views.CoreState.{phase_by}
 use Rattle.steps.proofs.cores.Core.reclaim.Goals as goal
 
 pub returns-in_default : goal.returns-in_default
 returns-in_default g c = record {
-  key = λ resting key goes. c.in_default.not-Rest (phase_is c.self.inside c.self.invariant ∙ ap (λ (v : CoreView). phase_of v.log) c.self.view_is ∙ resting);
+  key = λ resting key goes. c.in_default.not-Rest (phase_by c.self.inside c.self.invariant c.self.view_is resting);
   reclaimed = nothing_gone c.args.self.now;
 }
 

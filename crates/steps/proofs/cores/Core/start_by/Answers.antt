@@ -2,8 +2,7 @@ use Rattle.std.proofs.Common.{◌≤◌, length, sym, subst, arith}
 use Rattle.commitlog.specs.declared.limits.TheConstants.{LOG_RECORDS}
 use Rattle.steps.specs.CoreViews.{CoreView}
 use Rattle.steps.proofs.phases.AddedToken.{number_within, same_core}
-use Rattle.steps.proofs.phases.CheckpointRefusals.{starts_at_rest, starts_untaken}
-use Rattle.steps.proofs.phases.StartedCheckpoint.{start_core, start_number, start_view}
+use Rattle.steps.proofs.phases.StartedCheckpoint.{start_core, start_number, start_view, starts_at_rest, starts_untaken}
 use Rattle.steps.proofs.cores.Core.start_by.Goals as goal
 
 pub overflow_add-number : goal.overflow_add-number
