@@ -1,6 +1,6 @@
 -- What a schedule's answers say of the log.
 use Rattle.std.proofs.Common.{◌≡◌, ◌+◌, arith, cond, count_by, option_to_list, ℕ, zero, suc, Bool, true, false, is_some, IfSome, List, [], ◌∷◌, ◌++◌, length, map, Option, Some, None}
-use Rattle.std.proofs.Common.{Ok, Err, is_ok, IsSome, option_map, replicate, slice_get, slice_set, slice_index_or, refl, sym, ap, ◌∙◌, subst}
+use Rattle.std.proofs.Common.{Ok, Err, is_ok, option_map, replicate, slice_get, slice_set, slice_index_or, refl, sym, ap, ◌∙◌, subst}
 use Rattle.std.specs.declared.result.Result.{Result}
 use Rattle.std.proofs.lemmas.List.{append-nil, append_assoc, length-append, map-append, map-set, set-get_or}
 use Rattle.std.proofs.lemmas.List.Sums.{sum_by-cons}
@@ -54,13 +54,6 @@ pub open_finish : (v : CoreView) (s : ℕ) → finish_refusal v s ≡ None → (
 open_finish v s e = by (open_at v s) refl e
   where
     by : (o : Option Underway) → open_at v s ≡ o → unfinished v o ≡ None → (c : Underway) × (open_at v s ≡ Some c)
-    by None f e = absurd (cc)
-    by (Some c) f e = (c, f)
-
-open_given : (v : CoreView) (s : ℕ) → IsSome (open_at v s) → (c : Underway) × (open_at v s ≡ Some c)
-open_given v s e = by (open_at v s) refl e
-  where
-    by : (o : Option Underway) → open_at v s ≡ o → IsSome o → (c : Underway) × (open_at v s ≡ Some c)
     by None f e = absurd (cc)
     by (Some c) f e = (c, f)
 

@@ -160,11 +160,6 @@ module _ (c : List Procedure) (t : Table) where
     images_grow h r f f' e l is x.1,
   )
 
--- which records are before an earlier cut
-pub before-call : (h : List Record) (n s : ℕ) (d : Open) → before n (answer s d ∷ h) ≡ before n h
-unfolding before
-before-call h n s d = refl
-
 pub before-resolve : (h : List Record) (n m : ℕ) → n < m → before n (Token Resolve m ∷ h) ≡ before n h
 unfolding before
 before-resolve h n m l = ap (λ b. cond b h (before n h)) (ne_eqb m n (λ e. absurd (omega arith)))
@@ -172,37 +167,3 @@ before-resolve h n m l = ap (λ b. cond b h (before n h)) (ne_eqb m n (λ e. abs
 pub before-own : (h : List Record) (n : ℕ) → before n (Token Resolve n ∷ h) ≡ h
 unfolding before
 before-own h n = ap (λ b. cond b h (before n h)) (eq-eqb n n refl)
-
-grows_at : (p : Phase) (m n f k : ℕ) → Follows p m Resolve k → f + pending p ≤ m → n ≤ f → n < k
-grows_at Prepare m n f k g l h = omega arith
-grows_at _ m n f k g l h = absurd g
-
--- the cuts of finished checkpoints stay, by the log alone
-pub before-grows : (r : Record) (h : List Record) → IsCyclicHistory (r ∷ h) → (n : ℕ) → n ≤ history_last_finished h → before n (r ∷ h) ≡ before n h
-unfolding before
-before-grows (Call s m p args o r) h c n l = refl
-before-grows (Token Rest m) h c n l = refl
-before-grows (Token Prepare m) h c n l = refl
-before-grows (Token Capture m) h c n l = refl
-before-grows (Token Complete m) h c n l = refl
-before-grows (Token Resolve m) h c n l =
-    before-resolve h n m (grows_at (history_phase h) (history_number h) n (history_last_finished h) m c.0 (finished_below h c.1) l)
-
-finished_up : (p p' : Phase) (n m f : ℕ) → Follows p n p' m → f + pending p ≤ n → f ≤ last_finished_at p' m f
-finished_up Capture Complete n m f g l = omega arith
-finished_up Rest Complete n m f g l = absurd g
-finished_up Prepare Complete n m f g l = absurd g
-finished_up Resolve Complete n m f g l = absurd g
-finished_up Complete Complete n m f g l = absurd g
-finished_up p _ n m f g l = le_refl f
-
-finished-grows : (r : Record) (h : List Record) → IsCyclicHistory (r ∷ h) → history_last_finished h ≤ history_last_finished (r ∷ h)
-unfolding history_last_finished
-finished-grows (Call s m p args o r) h c = le_refl _
-finished-grows (Token p m) h c = finished_up (history_phase h) p (history_number h) m (history_last_finished h) c.0 (finished_below h c.1)
-
--- images taken out of a core stay cuts as its log goes on
-pub images-grow :
-    (c : List Procedure) (t : Table) (r : Record) (h : List Record) → IsCyclicHistory (r ∷ h) → (is : List MachineImage) → AllFinished c t h (history_last_finished h) is →
-    AllFinished c t (r ∷ h) (history_last_finished (r ∷ h)) is
-images-grow c t r h cyc is x = images_grow c t h r (history_last_finished h) (history_last_finished (r ∷ h)) (before-grows r h cyc) (finished-grows r h cyc) is x

@@ -41,9 +41,6 @@ complete_not e = absurd (let no : Complete ≡ Prepare = e in cc)
 pub resolve_not : {A : Type 0} → Resolve ≡ Prepare → A
 resolve_not e = absurd (let no : Resolve ≡ Prepare = e in cc)
 
-pub capture_not : {A : Type 0} → Capture ≡ Prepare → A
-capture_not e = absurd (let no : Capture ≡ Prepare = e in cc)
-
 -- a write, by a call that started in st and has the key to itself
 module _ (a b y : Cell) (U H E U' H' E' : Type 0) where
   write_late : (vis fro : Bool) (l : Cell) (sb : Option Cell) (av : Bool) → (U → l ≡ a) → StatusAtCapture a b vis fro U av sb →

@@ -19,7 +19,7 @@ use Rattle.steps.proofs.machine.CheckpointInvariant.{start_good, resolve_good, c
 use Rattle.steps.specs.machine.NewestFirst.{history_table, IsLegalHistory, IsCyclicHistory, history_phase, history_number, before, since, at, history_last_finished, MachineImage, IsCut, IsFull, IsPartial}
 use Rattle.steps.specs.machine.Invariant.{Invariant, IsFinishedImage, AllFinished}
 use Rattle.steps.specs.Drives.{calls_of}
-use Rattle.steps.specs.machine.ScheduleAnswers.{with_answer, answers, open_after, open_of, begun_of, Among, MachineStandOn, AllAmong, last_machine_number, merged_all, machine_table, History, Checkpoints, NewestFirstPromises}
+use Rattle.steps.specs.machine.ScheduleAnswers.{with_answer, answers, open_after, open_of, begun_of, Among, MachineStandOn, AllAmong, last_machine_number, merged_all, machine_table, History, Checkpoints}
 use Rattle.steps.specs.CoreViews.{Begun}
 use Rattle.steps.specs.machine.Machine.{Open, CallsBySession, put, begun, stepped, restarted_open, State, Goes, Begins, Steps, Commits, Aborts, Gives_up, Starts, Resolves, Captures, Visits, Completes, Rests, Reclaims, Abandons, Runs, none, more, initial, answer}
 
@@ -202,6 +202,3 @@ module _ (c : List Procedure) (t : Table) (w : State) (r : Runs (initial c t) w)
         opening_chain = λ ps a x. chain_cut c t w.log w.finished w.images images_here t 0 (opening_at c t w.log good.lawful.cyclic) ps a x;
         chain = λ i ai e ps a x. chain_cut c t w.log w.finished w.images images_here (machine_table i) i.number (full_table c t w.log w.finished w.images images_here i ai e) ps a x;
       }
-
-pub proved : NewestFirstPromises
-proved c t w r = (history c t w r, checkpoints c t w r)

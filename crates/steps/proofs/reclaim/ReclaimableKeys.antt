@@ -1,5 +1,5 @@
 -- Which records of a core at rest may go, by its store, its sets and its locks.
-use Rattle.std.proofs.Common.{◌≡◌, ◌≢◌, ◌⊎◌, ℕ, suc, ◌-◌, arith, Bool, true, false, cond, not, ◌&&◌, List, length, drop, reverse, Option, Some, None, IsSome, is_none, inl, inr, refl, sym, ap, ◌∙◌, subst, true≢false}
+use Rattle.std.proofs.Common.{◌≡◌, ◌⊎◌, ℕ, suc, ◌-◌, arith, Bool, true, false, cond, not, ◌&&◌, List, length, drop, reverse, Option, Some, None, IsSome, is_none, inl, inr, refl, sym, ap, ◌∙◌, subst, true≢false}
 use Rattle.std.specs.Option.{option_map, option_and_then}
 use Rattle.std.specs.Prelude.{slice_range}
 use Rattle.std.proofs.lemmas.List.{length-drop, take_all}
@@ -20,11 +20,11 @@ use Rattle.locktable.specs.declared.modes.Mode.{Mode}
 use Rattle.locktable.specs.Locks.{IsFree, mode_of}
 use Rattle.record_store.specs.ChangedSets.{has}
 use Rattle.record_store.specs.DeadKeys.{precedes}
-use Rattle.record_store.specs.Stores.{IsLeastCandidate, HasKeysOnce, StoreRecord, Slots, candidate_at, candidate_key, key_at, live_at, record_at}
+use Rattle.record_store.specs.Stores.{IsLeastCandidate, HasKeysOnce, StoreRecord, Slots, candidate_at, candidate_key, key_at, record_at}
 use Rattle.record_store.specs.Versions as stored
 use Rattle.record_store.specs.Versions.{version_of}
-use Rattle.record_store.proofs.Versions.{record_with, version_found, version_some}
-use Rattle.steps.specs.inside.SetAside.{IsLocked, StaysFor, aside_at, is_aside}
+use Rattle.record_store.proofs.Versions.{version_found, version_some}
+use Rattle.steps.specs.inside.SetAside.{IsLocked, aside_at, is_aside}
 use Rattle.steps.specs.machine.NewestFirst.{history_table, before, since}
 use Rattle.steps.specs.inside.CoreFields.{IsCore, mode_held, mode_by, underway, view_of}
 use Rattle.steps.specs.CoreViews.{bars, front_of, table_now}
@@ -33,8 +33,6 @@ use Rattle.steps.specs.machine.Invariant.{Gathers, Sets, Unchanged}
 use Rattle.steps.specs.Refusals.{is_cutting}
 use Rattle.steps.specs.Reclaiming.{IsReclaimable, MayGo, is_recent, is_touched}
 use Rattle.steps.specs.machine.Machine.{MayReclaim, Open, State, now}
-use Rattle.steps.specs.declared.reclaiming.Aside.{Aside}
-use Rattle.steps.specs.declared.reclaiming.Aside.TheVariants.{Unknown, Collected, CollectedOrLocked}
 use Rattle.steps.specs.declared.cores.Core.TheInside.{Inside}
 use Rattle.steps.proofs.sessions.BarredTouches.{any_found, any_none, excluded_by, held_at, holder, writes_excluded}
 use Rattle.steps.proofs.log.Cuts.{HasPlace, front-reverse, since-reverse}
@@ -86,11 +84,6 @@ key_of o = option_map (λ r. r.key) o
 pub dead_key : (slots : Slots) (slot : ℕ) (key : Bytes) → IsDead slots slot key → key_at slots slot ≡ Some key
 unfolding key_of
 dead_key slots slot key d = ap key_of d.there ∙ ap (λ (k : Bytes). Some k) d.key_is
-
-pub dead_there : (slots : Slots) (slot : ℕ) (key : Bytes) → key_at slots slot ≡ Some key → live_at slots slot ≡ None → IsDead slots slot key
-dead_there slots slot key is dead =
-    let r = record_with slots slot key is in
-    record { kept = r.0; there = r.1; key_is = r.2; dead = sym (ap (option_and_then (λ (r : StoreRecord). r.live)) r.1) ∙ dead }
 
 candidate_by :
     (r : StoreRecord) (key : Bytes) (live : Cell) (aside : Bool) → r.live ≡ live → r.aside ≡ aside → cond (is_none live && not aside) (Some r.key) None ≡ Some key →
@@ -146,12 +139,6 @@ version_dead slots key v is dead = by (version_of slots key) refl is
         let h = version_some slots key u e in
         let one : key_versions u ≡ v = cc in
         (h.slot, record { kept = h.kept; there = h.there; key_is = h.key_is; dead = ap (λ (x : stored.Version). x.live) h.version_is ∙ ap (λ (x : KeyVersions). x.live) one ∙ dead })
-
--- where it is known why records are set aside
-pub stays_for : (aside : Aside) (collected : Bool) (locked : Type 0) → aside ≢ Unknown → StaysFor aside collected locked → (collected ≡ true) ⊎ locked
-stays_for Unknown collected locked known x = absurd (known refl)
-stays_for Collected collected locked known x = inl x
-stays_for CollectedOrLocked collected locked known x = x
 
 -- FREE KEYS
 

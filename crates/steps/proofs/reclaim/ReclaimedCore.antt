@@ -63,14 +63,6 @@ module _ (slots : Slots) (slot : ℕ) where
     gone_at : (i : ℕ) → i ≡ slot → record_at (reclaimed slots slot) i ≡ None
     gone_at i e = ap (record_at (reclaimed slots slot)) e ∙ gone
 
-    -- a record that is there was there
-    pub reclaimed_kept : (i : ℕ) (r : StoreRecord) → record_at (reclaimed slots slot) i ≡ Some r → record_at slots i ≡ Some r
-    reclaimed_kept i r is =
-        elim (cases_eq i slot) [
-          | inl e ↦ none_some (sym (gone_at i e) ∙ is)
-          | inr differs ↦ sym (others i differs) ∙ is
-        ]
-
     pub reclaimed_key : (i : ℕ) (k : Bytes) → key_at (reclaimed slots slot) i ≡ Some k → key_at slots i ≡ Some k
     reclaimed_key i k is =
         elim (cases_eq i slot) [
@@ -205,9 +197,6 @@ module _ {A : Type 0} (c : Inside A) (ok : IsCore c) (phase : c.phase ≡ Rest) 
 
     pub none_key : IsLeastCandidate store None → IsReclaimable v None
     none_key least = subst (λ (u : CoreView). IsReclaimable u None) same (none_is c ok phase store is.versions stays least)
-
-    pub none_view : Reclaims v (view_of (with_store c ok phase store aside)) None
-    none_view = same_view c ok phase store aside v same is.slots is.keys is.versions
 
     -- the candidate goes
     module _ (slot : ℕ) (key : Bytes) (least : IsLeastCandidate store (Some slot)) (key_is : key_at store slot ≡ Some key) (uncollected : has c.changed.collecting key ≡ false)

@@ -340,10 +340,6 @@ module _ {A : Type 0} where
         (scan_kept ok.world.phase c.checkpoint kept _ _ ok.world.visited ok.world.bound ok.world.given same_items (λ i q is. is) ok.stands.checkpoint.scan) ok.stands.checkpoint.waits ok.stands.checkpoint.heads
         ok.stands.checkpoint.none_yet ok.aside)
 
-    pub roomy_scan_view : (v : CoreView) → view_of c ≡ v → (store : Slots) → store ≡ c.store → view_of (with_room store) ≡ v
-    roomy_scan_view v same store e =
-        ap (λ (s : Slots). record (view_of c) { slots = s }) e ∙ same
-
 -- before a scan the list of what it captures says nothing
 module _ {A : Type 0} (c : Inside A) (ok : IsCore c) (kept : Vec (Bytes × Cell) A) where
   pub listed_core : c.phase ≡ Resolve → IsCore (record c { checkpoint = record c.checkpoint { captured = kept } })
@@ -369,6 +365,3 @@ module _ {A : Type 0} (c : Inside A) (ok : IsCore c) (store : Slots) (given : Gi
 
   pub unsent_core : IsCore unsent
   unsent_core = subst IsCore (sym unchanged) ok
-
-  pub unsent_view : (v : CoreView) → view_of c ≡ v → view_of unsent ≡ v
-  unsent_view v same = ap (λ (d : Inside A). view_of d) unchanged ∙ same

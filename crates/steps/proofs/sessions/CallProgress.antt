@@ -39,13 +39,6 @@ done p o e = by (is_nil p.rest) e
     by true e = (refl, cc)
     by false e = absurd (cc)
 
--- a call that goes on isn't answered, and one that has ended is, if the log isn't full
-pub going_on : (p : Progress) (full : Bool) → ended p ≡ None → unanswered p full ≡ Some refused.NotReady
-going_on p full e = ap (λ b. option_or (refused_unless b refused.NotReady) (refused_unless (not full) refused.LogFull)) (going p e)
-
-pub ended_by : (p : Progress) (o : ℕ) (full : Bool) → ended p ≡ Some o → unanswered p full ≡ refused_unless (not full) refused.LogFull
-ended_by p o full e = ap (λ b. option_or (refused_unless b refused.NotReady) (refused_unless (not full) refused.LogFull)) (done p o e).0
-
 pub ready : (p : Progress) (full : Bool) → unanswered p full ≡ None → (is_nil p.rest ≡ true) × (full ≡ false)
 ready p full e = by (is_nil p.rest) full e
   where

@@ -73,6 +73,3 @@ pub record Checkpoints (c : List Procedure) (t : Table) (w : State) : Type 0 whe
   pub opening_chain : (ps : List MachineImage) → AllAmong ps w.images → MachineStandOn 0 ps → merged_all t ps ≡ at c t (last_machine_number 0 ps) w.log
   pub chain : (i : MachineImage) → Among i w.images → i.kind ≡ Full → (ps : List MachineImage) → AllAmong ps w.images → MachineStandOn i.number ps →
       merged_all (machine_table i) ps ≡ at c t (last_machine_number i.number ps) w.log
-
-abbrev pub NewestFirstPromises : Type 0
-NewestFirstPromises = (c : List Procedure) (t : Table) (w : State) (r : Runs (initial c t) w) → History c t w r × Checkpoints c t w
