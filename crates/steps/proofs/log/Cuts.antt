@@ -56,7 +56,7 @@ within_at : (b : Bool) (x y n : ℕ) → (x < n → y ≡ x) → cond b 0 (suc x
 within_at true x y n ih l = refl
 within_at false x y n ih l = ap suc (ih (omega arith))
 
-cut_within : (n : ℕ) (xs ys : List Record) → before_resolve n xs < length xs → before_resolve n (xs ++ ys) ≡ before_resolve n xs
+pub cut_within : (n : ℕ) (xs ys : List Record) → before_resolve n xs < length xs → before_resolve n (xs ++ ys) ≡ before_resolve n xs
 cut_within n [] ys l = absurd (omega arith)
 cut_within n (x ∷ xs) ys l = within_at (cuts.resolves n x) (before_resolve n xs) (before_resolve n (xs ++ ys)) (length xs) (cut_within n xs ys) l
 

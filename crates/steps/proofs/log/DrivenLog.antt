@@ -33,6 +33,7 @@ use Rattle.steps.specs.declared.schedules.Handled.{Handled}
 use Rattle.steps.specs.declared.schedules.Reply.{Reply}
 use Rattle.steps.specs.declared.schedules.Reply.TheVariants as reply
 use Rattle.steps.proofs.log.ImageChains.{all_taken-grows}
+use Rattle.steps.proofs.log.SchedulePromises.{calls_of-append}
 use Rattle.steps.proofs.views.OpenedCore.{map-replicate}
 
 -- what a session's open call was begun with
@@ -112,11 +113,6 @@ stand_both log ((i, r) ∷ l) m h k = (h.0, stand_both log l m h.1 k)
 abbrev second : ℕ × Record → Record
 second x = x.1
 
-calls_both : (h k : List Record) → calls_of (h ++ k) ≡ calls_of h ++ calls_of k
-calls_both [] k = refl
-calls_both (Token p n ∷ h) k = calls_both h k
-calls_both (Call s n p a o r ∷ h) k = ap (λ l. Call s n p a o r ∷ l) (calls_both h k)
-
 record GrowsBy (old new : CoreView) (l : List (ℕ × Record)) : Type 0 where
   catalog : new.catalog ≡ old.catalog
   opening : new.opening ≡ old.opening
@@ -131,7 +127,7 @@ joined old between new b l m h g = record {
   opening = g.opening ∙ h.opening;
   more = h.more ++ g.more;
   log = g.log ∙ ap (λ k. k ++ g.more) h.log ∙ append_assoc old.log h.more g.more;
-  calls = calls_both h.more g.more ∙ ap (λ k. k ++ calls_of g.more) h.calls ∙ ap (λ k. map second l ++ k) g.calls ∙ sym (map-append second l m);
+  calls = calls_of-append h.more g.more ∙ ap (λ k. k ++ calls_of g.more) h.calls ∙ ap (λ k. map second l ++ k) g.calls ∙ sym (map-append second l m);
   stands = stand_both new.log l m (subst (λ k. EachStands k l) (sym g.log) (stand_on between.log g.more l h.stands)) g.stands;
 }
 

@@ -25,16 +25,9 @@ use Rattle.image.specs.Merges.{IsChain, AreChained, last_of, table_of}
 use Rattle.image.specs.declared.images.Kind.{Kind}
 use Rattle.image.specs.declared.images.Kind.TheVariants.{Full, Partial}
 use Rattle.steps.specs.CutImages.{AllTaken, ChainsAreCuts, IsOfKind, IsTaken, number_of_last, plain}
+use Rattle.steps.proofs.log.Cuts.{cut_within}
 
 -- ---- as the log grows
-
-cut_within_at : (b : Bool) (x y n : ℕ) → (x < n → y ≡ x) → cond b 0 (suc x) < suc n → cond b 0 (suc y) ≡ cond b 0 (suc x)
-cut_within_at true x y n ih l = refl
-cut_within_at false x y n ih l = ap suc (ih (omega arith))
-
-cut_within : (n : ℕ) (l m : List Record) → before_resolve n l < length l → before_resolve n (l ++ m) ≡ before_resolve n l
-cut_within n [] m w = absurd (omega arith)
-cut_within n (r ∷ l) m w = cut_within_at (resolves n r) (before_resolve n l) (before_resolve n (l ++ m)) (length l) (cut_within n l m) w
 
 no_earlier_at : (b : Bool) (x y : ℕ) → x ≤ y → cond b 0 (suc x) ≤ cond b 0 (suc y)
 no_earlier_at true x y l = omega arith

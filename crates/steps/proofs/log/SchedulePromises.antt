@@ -18,7 +18,7 @@ use Rattle.steps.proofs.log.Cuts.{HasPlace, cut-reverse, cut-none, front-reverse
 use Rattle.steps.proofs.machine.ScheduleInvariant.{history, checkpoints, images_here, taken, before_zero}
 
 -- the calls of a log
-calls_of-append : (l m : List Record) → calls_of (l ++ m) ≡ calls_of l ++ calls_of m
+pub calls_of-append : (l m : List Record) → calls_of (l ++ m) ≡ calls_of l ++ calls_of m
 calls_of-append [] m = refl
 calls_of-append (Token p n ∷ l) m = calls_of-append l m
 calls_of-append (Call s n p args o r ∷ l) m = ap (λ x. Call s n p args o r ∷ x) (calls_of-append l m)

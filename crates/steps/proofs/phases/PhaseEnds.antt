@@ -1,7 +1,6 @@
 -- When a phase may be left, by the start phases and by the view.
 use Rattle.std.proofs.Common.{◌≡◌, ◌↔◌, Ok, Err, IsOk, is_err, ℕ, zero, suc, Bool, true, false, not, ◌||◌, List, [], ◌∷◌, Option, Some, None, map, option_map, refl, sym, ap, ◌∙◌, subst, true≢false}
 use Rattle.std.specs.Prelude.{◌==◌}
-use Rattle.std.specs.Option.{option_or}
 use Rattle.std.specs.declared.result.Result.{Result}
 use Rattle.std.proofs.lemmas.Bool.{eqb-true, eq-eqb}
 use Rattle.phase.specs.Phases.{AllStartedIn, MayLeave}
@@ -15,9 +14,9 @@ use Rattle.steps.specs.machine.Machine.{AllStarted, Open}
 use Rattle.steps.specs.declared.calls.OpenCall.{OpenCall}
 use Rattle.steps.specs.declared.cores.Core.TheInside.{Inside}
 use Rattle.steps.specs.declared.errors.AdvanceError.TheVariants as refused
-use Rattle.steps.proofs.sessions.BarredTouches.{any_none}
+use Rattle.steps.proofs.sessions.BarredTouches.{any_none, neither_of}
 use Rattle.steps.proofs.machine.OpenCalls.{none_some, same_Some}
-use Rattle.steps.proofs.sessions.AcceptedCalls.{shown_at}
+use Rattle.steps.proofs.sessions.AcceptedCalls.{passes, shown_at}
 use Rattle.steps.proofs.views.CoreState.{phase_by}
 
 abbrev of_rank : ℕ → Phase
@@ -44,10 +43,6 @@ here p u e = by (rank u.start == rank p) refl e
 none_elsewhere : (p : Phase) (u : Underway) → u.start ≡ p → started_elsewhere p u ≡ false
 none_elsewhere p u e = ap not (eq-eqb (rank u.start) (rank p) (ap rank e))
 
-neither : (a b : Bool) → (a || b) ≡ false → (a ≡ false) × (b ≡ false)
-neither true b e = absurd (true≢false e)
-neither false b e = (refl, e)
-
 module _ {A : Type 0} where
   held_by : (p : Phase) (l : List (Option (OpenCall A))) → AllStartedIn p (map start_of l) → any_open (started_elsewhere p) (map (option_map underway) l) ≡ false
   held_by p [] all = refl
@@ -62,8 +57,8 @@ module _ {A : Type 0} where
   free_by p (None ∷ l) e (suc s) q is = free_by p l e s q is
   free_by p (Some k ∷ l) e zero q is =
       let one : k.start ≡ q = same_Some (same_Some is) in
-      sym one ∙ here p (underway k) (neither (started_elsewhere p (underway k)) (any_open (started_elsewhere p) (map (option_map underway) l)) e).0
-  free_by p (Some k ∷ l) e (suc s) q is = free_by p l (neither (started_elsewhere p (underway k)) (any_open (started_elsewhere p) (map (option_map underway) l)) e).1 s q is
+      sym one ∙ here p (underway k) (neither_of (started_elsewhere p (underway k)) (any_open (started_elsewhere p) (map (option_map underway) l)) e).0
+  free_by p (Some k ∷ l) e (suc s) q is = free_by p l (neither_of (started_elsewhere p (underway k)) (any_open (started_elsewhere p) (map (option_map underway) l)) e).1 s q is
 
   module _ (c : Inside A) (ok : IsCore c) where
     -- where the start phases let the phase go, no open call holds it
@@ -101,11 +96,7 @@ module _ {A : Type 0} where
             subst (λ (d : Open). d.start ≡ p) (same_Some there)
             (same.start ∙ here p (underway k) (any_none (started_elsewhere p) (view_of c).calls e s (underway k) (shown_at c s ∙ ap (option_map underway) at)))
 
-first_not : {E : Type 0} (b : Bool) (e : E) (rest : Option E) → option_or (refused_unless b e) rest ≡ None → (b ≡ true) × (rest ≡ None)
-first_not true e rest is = (refl, is)
-first_not false e rest is = absurd (cc)
-
-not_not : (b : Bool) → not b ≡ true → b ≡ false
+pub not_not : (b : Bool) → not b ≡ true → b ≡ false
 not_not true e = absurd (true≢false (sym e))
 not_not false e = refl
 
@@ -118,9 +109,9 @@ pub record IsFree (v : CoreView) (p : Phase) : Type 0 where
 
 pub free_to_advance : (v : CoreView) (p : Phase) → phase_of v.log ≡ p → advance_refusal v ≡ None → IsFree v p
 free_to_advance v p e is =
-    let first = first_not (not (is_rest (phase_of v.log))) refused.AtRest _ is in
-    let second = first_not (not (is_held (phase_of v.log) v.calls)) refused.StillActive _ first.1 in
-    let third = first_not (not (is_scanning (phase_of v.log) v.checkpoint)) refused.NotScanned _ second.1 in
+    let first = passes (not (is_rest (phase_of v.log))) refused.AtRest _ is in
+    let second = passes (not (is_held (phase_of v.log) v.calls)) refused.StillActive _ first.1 in
+    let third = passes (not (is_scanning (phase_of v.log) v.checkpoint)) refused.NotScanned _ second.1 in
     record {
       running = subst (λ p. is_rest p ≡ false) e (not_not _ first.0);
       free = subst (λ p. is_held p v.calls ≡ false) e (not_not _ second.0);

@@ -1,6 +1,5 @@
 -- A core after its phase changed: into resolve, and to rest.
-use Rattle.std.proofs.Common.{◌≡◌, ℕ, false, cond, List, [], ◌∷◌, ◌++◌, Option, Some, None, is_some, map, option_map, length, refl, sym, ap, ◌∙◌, true≢false, Bool, true, ◌||◌, subst}
-use Rattle.std.proofs.lemmas.Bool.{eq-eqb}
+use Rattle.std.proofs.Common.{◌≡◌, ℕ, false, List, [], ◌∷◌, ◌++◌, Option, Some, None, is_some, map, option_map, length, refl, sym, ap, ◌∙◌, true≢false, Bool, true, ◌||◌, subst}
 use Rattle.std.specs.FinMap as fin
 use Rattle.std.specs.Ordering.{nat_cmp}
 use Rattle.std.specs.Cmp.Lexicographic.{slice_cmp}
@@ -28,13 +27,9 @@ use Rattle.steps.specs.machine.Machine.{Resolves, Rests, cleaned_versions, more,
 use Rattle.steps.specs.declared.cores.Core.TheInside.{Inside}
 use Rattle.steps.proofs.phases.AddedToken.{number_is, token_core}
 use Rattle.steps.proofs.log.OldestFirst.{length-reverse}
+use Rattle.steps.proofs.machine.HistoryGrowth.{before-own}
 use Rattle.steps.proofs.phases.PhaseEnds.{all_started}
 use Rattle.steps.proofs.views.CoreState.{good}
-
--- the records before the cut that is made now
-pub before_here : (n : ℕ) (h : List Record) → before n (Token Resolve n ∷ h) ≡ h
-unfolding before
-before_here n h = ap (λ b. cond b h (before n h)) (eq-eqb n n refl)
 
 -- a token of another phase leaves the cut where it is
 pub before_capture : (n m : ℕ) (h : List Record) → before n (Token Capture m ∷ h) ≡ before n h
@@ -92,7 +87,7 @@ module _ {A : Type 0} (c : Inside A) (ok : IsCore c) (log : Log) where
           number = ok.stands.checkpoint.number;
           finished = ok.stands.checkpoint.finished;
           kind = ok.stands.checkpoint.kind;
-          place = λ cutting. ap length (before_here ok.world.number ok.world.log) ∙ sym (length-reverse ok.world.log) ∙ ap length ok.stands.log ∙ sym place_is;
+          place = λ cutting. ap length (before-own ok.world.log ok.world.number) ∙ sym (length-reverse ok.world.log) ∙ ap length ok.stands.log ∙ sym place_is;
           scan = tt;
           waits = ok.stands.checkpoint.waits;
           heads = ok.stands.checkpoint.heads;

@@ -1,5 +1,5 @@
 -- A core after a checkpoint began.
-use Rattle.std.proofs.Common.{◌≡◌, Some, None, suc, ◌+◌, [], ◌∷◌, ◌++◌, refl, sym, ap, ◌∙◌, arith, true≢false, Bool, true, false, not, ◌&&◌, Option, is_none, length}
+use Rattle.std.proofs.Common.{◌≡◌, Some, None, suc, ◌+◌, [], ◌∷◌, ◌++◌, refl, sym, ap, ◌∙◌, arith, true≢false, Bool, true, not, ◌&&◌, Option, is_none, length}
 use Rattle.phase.specs.declared.phases.Phase.TheVariants.{Rest, Prepare}
 use Rattle.commitlog.specs.Logs.{Log}
 use Rattle.commitlog.specs.Histories.{number_of, phase_of}
@@ -20,13 +20,10 @@ use Rattle.image.specs.Images.{Image}
 use Rattle.image.specs.declared.headers.Header.{Header}
 use Rattle.steps.specs.Refusals.{is_rest, start_refusal, refused_unless}
 use Rattle.steps.specs.declared.errors.StartError.TheVariants as starting
+use Rattle.steps.proofs.sessions.AcceptedCalls.{passes}
 use Rattle.steps.proofs.views.CoreState.{phase_by}
 
 -- WHERE ONE MAY BEGIN
-
-first_of : {E : Type 0} (b : Bool) (e : E) (rest : Option E) → option_or (refused_unless b e) rest ≡ None → b ≡ true
-first_of true e rest is = refl
-first_of false e rest is = absurd (cc)
 
 rest_is : (p : Phase) → is_rest p ≡ true → p ≡ Rest
 rest_is Rest e = refl
@@ -41,7 +38,7 @@ untaken _ _ _ full e = absurd (cc)
 module _ {A : Type 0} (c : Inside A) (ok : IsCore c) (v : CoreView) (same : view_of c ≡ v) (starts : start_refusal v ≡ None) where
   -- where a checkpoint may begin none runs
   pub starts_at_rest : c.phase ≡ Rest
-  starts_at_rest = phase_by c ok same (rest_is (phase_of v.log) (first_of (is_rest (phase_of v.log)) starting.NotAtRest _ starts))
+  starts_at_rest = phase_by c ok same (rest_is (phase_of v.log) (passes (is_rest (phase_of v.log)) starting.NotAtRest _ starts).0)
 
   -- and no header waits
   pub starts_untaken : c.checkpoint.header ≡ None

@@ -1,25 +1,17 @@
 -- When a core isn't renewed, by its fields.
 use Rattle.std.proofs.Common.{◌≡◌, ◌↔◌, ℕ, zero, suc, Bool, true, false, not, List, [], ◌∷◌, map, option_map, slice_index_or, Option, Some, None, IsTrue, IsNone, refl, sym, ap, ◌∙◌, true≢false}
 use Rattle.std.specs.List.{All, AllByRecursion}
-use Rattle.std.specs.Option.{option_or}
 use Rattle.std.proofs.lemmas.List.Elements.{All-from_recursion, recursion_from_All}
 use Rattle.commitlog.specs.Histories.{phase_of}
 use Rattle.steps.specs.CoreViews.{CoreView, Underway}
-use Rattle.steps.specs.Refusals.{is_rest, refused_unless}
+use Rattle.steps.specs.Refusals.{is_rest}
 use Rattle.steps.specs.Renewals.{is_busy, renew_refusal}
 use Rattle.steps.specs.inside.CoreFields.{call_at, underway, view_of}
 use Rattle.steps.specs.declared.calls.OpenCall.{OpenCall}
 use Rattle.steps.specs.declared.cores.Core.TheInside.{Inside}
-use Rattle.steps.specs.declared.errors.RenewError.{RenewError}
 use Rattle.steps.specs.declared.errors.RenewError.TheVariants.{NotAtRest, SessionBusy}
-
-first_of : (b : Bool) (e : RenewError) (rest : Option RenewError) → option_or (refused_unless b e) rest ≡ None → (b ≡ true) × (rest ≡ None)
-first_of true e rest is = (refl, is)
-first_of false e rest is = absurd (cc)
-
-is_false : (b : Bool) → not b ≡ true → b ≡ false
-is_false false e = refl
-is_false true e = absurd (true≢false (sym e))
+use Rattle.steps.proofs.phases.PhaseEnds.{not_not}
+use Rattle.steps.proofs.sessions.AcceptedCalls.{passes}
 
 module _ {A : Type 0} where
   abbrev Free : List (Option (OpenCall A)) → Type 0
@@ -64,5 +56,5 @@ module _ {A : Type 0} where
   -- where a core may be renewed no call is open
   pub none_open_at : (c : Inside A) (v : CoreView) → view_of c ≡ v → renew_refusal v ≡ None → (s : ℕ) → call_at c s ≡ None
   none_open_at c v same e s =
-      let free = first_of (not (is_busy v.calls)) SessionBusy _ (first_of (is_rest (phase_of v.log)) NotAtRest _ e).1 in
-      none_at c.calls.items s (ap (λ (w : CoreView). is_busy w.calls) same ∙ is_false (is_busy v.calls) free.0)
+      let free = passes (not (is_busy v.calls)) SessionBusy _ (passes (is_rest (phase_of v.log)) NotAtRest _ e).1 in
+      none_at c.calls.items s (ap (λ (w : CoreView). is_busy w.calls) same ∙ not_not (is_busy v.calls) free.0)

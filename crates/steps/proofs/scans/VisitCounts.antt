@@ -1,5 +1,5 @@
 -- A scan that ends has visited each of its places.
-use Rattle.std.proofs.Common.{◌≡◌, ◌≤◌, ◌+◌, ◌||◌, not, nat_lt, ℕ, suc, arith, Bool, true, false, List, [], ◌∷◌, inl, inr, None, Ok, Err, is_ok, refl, sym, ap, ◌∙◌, subst, true≢false}
+use Rattle.std.proofs.Common.{◌≡◌, ◌≤◌, ◌+◌, not, nat_lt, ℕ, suc, arith, Bool, true, false, List, [], ◌∷◌, inl, inr, None, Ok, Err, is_ok, refl, sym, ap, ◌∙◌, subst, true≢false}
 use Rattle.std.specs.declared.result.Result.{Result}
 use Rattle.std.specs.Option.{option_or}
 use Rattle.std.proofs.lemmas.Bool.{ltb-false}
@@ -21,6 +21,7 @@ use Rattle.steps.specs.declared.schedules.Handled.{Handled}
 use Rattle.steps.specs.declared.schedules.Reply.{Reply}
 use Rattle.steps.specs.declared.schedules.Reply.TheVariants as reply
 use Rattle.steps.proofs.log.DrivenLog.{open_finish, open_step}
+use Rattle.steps.proofs.sessions.BarredTouches.{neither_of}
 
 -- the cursor moves by so many places, below the bound
 record Moves (old new : CoreView) (n : ℕ) : Type 0 where
@@ -82,10 +83,6 @@ by_abandon : (old new : CoreView) (r : Result ℕ _) → AbandonsAs old new r �
 by_abandon old new (Ok x) h e = absurd (true≢false e)
 by_abandon old new (Err x) h e = nothing old new h.refused
 
-neither : (a b : Bool) → (a || b) ≡ false → (a ≡ false) × (b ≡ false)
-neither true b e = absurd (true≢false e)
-neither false b e = (refl, e)
-
 module _ {A : Type 0} where
   by_finish : (old new : CoreView) (s : ℕ) (r : Result _ _) → FinishesAs {A = A} old new s r → Moves old new 0
   by_finish old new s (Ok x) h = let there = open_finish old s h.refusal in same_checkpoint old new (h.finished there.0 there.1).same.checkpoint
@@ -117,7 +114,7 @@ module _ {A : Type 0} where
   all (e ∷ es) (x ∷ hs) old new (between, h, more) f =
       let r : Reply A = x.reply in
       let rs : List (Reply A) = replies_in hs in
-      let parts = neither (enters r) (any_enters rs) f in
+      let parts = neither_of (enters r) (any_enters rs) f in
       on old between new (visits (r ∷ [])) (visits rs) (visits (r ∷ rs)) (first_more r rs) (one e old between x h parts.0) (all es hs between new more parts.1)
 
 -- A SCAN THAT ENDS

@@ -13,7 +13,8 @@ use Rattle.steps.specs.Refusals.{refused_unless, takes, all_fit, is_above, begin
 use Rattle.steps.specs.declared.calls.OpenCall.{OpenCall}
 use Rattle.steps.specs.declared.cores.Core.TheInside.{Inside}
 
-passes : {E : Type 0} (b : Bool) (e : E) (r : Option E) → option_or (refused_unless b e) r ≡ None → (b ≡ true) × (r ≡ None)
+-- where a test that refuses lets a call go on, it holds, and the rest refuses nothing
+pub passes : {E : Type 0} (b : Bool) (e : E) (r : Option E) → option_or (refused_unless b e) r ≡ None → (b ≡ true) × (r ≡ None)
 passes true e r is = (refl, is)
 passes false e r is = absurd (cc)
 

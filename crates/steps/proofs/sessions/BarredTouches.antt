@@ -67,7 +67,7 @@ other_than l s t d e =
 
 -- BY THE LOCKS
 
-neither_of : (a b : Bool) → (a || b) ≡ false → (a ≡ false) × (b ≡ false)
+pub neither_of : (a b : Bool) → (a || b) ≡ false → (a ≡ false) × (b ≡ false)
 neither_of true b e = absurd (true≢false e)
 neither_of false b e = (refl, e)
 
