@@ -6,8 +6,7 @@ ghost use Rattle.procedure.specs.Bytes.{Bytes};
 ghost use Rattle.locktable.specs.Locks.{IsFree, Locks};
 ghost use Rattle.record_store.specs.ChangedSets.{has};
 ghost use Rattle.record_store.specs.Stores.{IsLeastCandidate, HasKeysOnce, key_at};
-ghost use Rattle.steps.specs.inside.SetAside.{AsideIn, IsKnown, after_release, aside_at, put_aside};
-ghost use Rattle.steps.specs.Versions.{versions_in};
+ghost use Rattle.steps.specs.inside.SetAside.{AsideIn, IsKnown, SameRecords, after_release, aside_at, put_aside};
 ghost use Rattle.steps.specs.Reclaiming.{IsReclaimable, Reclaims};
 
 use crate::captures::key_in;
@@ -43,10 +42,8 @@ impl Aside {
 
 /// Each record is a candidate again whenever it is dead.
 fn reconsider_all<A: Allocator>(store: &mut Store<A>)
-    ensures slots { length store.new ≡ length store.old }
+    ensures records { SameRecords store.old store.new }
     ensures none { (slot : ℕ) → aside_at store.new slot ≡ false }
-    ensures keys { (slot : ℕ) → key_at store.new slot ≡ key_at store.old slot }
-    ensures versions { (q : Bytes) → versions_in store.new q ≡ versions_in store.old q }
 {
     for slot in 0..store.slots() {
         store.reconsider(slot);
@@ -57,9 +54,7 @@ fn reconsider_all<A: Allocator>(store: &mut Store<A>)
 fn learn<A: Allocator>(store: &mut Store<A>, aside: &mut Aside)
     ensures known { IsKnown aside.new }
     ensures reasons { (collected : Bytes → Bool) (locks : Locks) → AsideIn aside.old store.old collected locks → AsideIn aside.new store.new collected locks }
-    ensures slots { length store.new ≡ length store.old }
-    ensures keys { (slot : ℕ) → key_at store.new slot ≡ key_at store.old slot }
-    ensures versions { (q : Bytes) → versions_in store.new q ≡ versions_in store.old q }
+    ensures records { SameRecords store.old store.new }
     ensures same { IsKnown aside.old → (store.new ≡ store.old) × (aside.new ≡ aside.old) }
 {
     match *aside {
@@ -125,9 +120,7 @@ fn next_to_go<A: Allocator>(
     requires reasons { AsideIn aside.old store.old (has changed.now.collecting) locks.now }
     ensures known { IsKnown aside.new }
     ensures reasons { AsideIn aside.new store.new (has changed.now.collecting) locks.now }
-    ensures slots { length store.new ≡ length store.old }
-    ensures keys { (slot : ℕ) → key_at store.new slot ≡ key_at store.old slot }
-    ensures versions { (q : Bytes) → versions_in store.new q ≡ versions_in store.old q }
+    ensures records { SameRecords store.old store.new }
     ensures once { HasKeysOnce store.new }
     ensures least { IsLeastCandidate store.new (option_map (λ r. r.0) result) }
     ensures key { IfSome result (λ r. key_at store.new r.0 ≡ Some r.1) }

@@ -10,9 +10,10 @@ use Rattle.locktable.specs.Locks.{Locks, IsFree}
 use Rattle.locktable.specs.declared.modes.Mode.{Mode}
 use Rattle.record_store.proofs.Fields.{edited_here}
 use Rattle.record_store.specs.Stores.{StoreRecord, Slots, candidate_key, changed, key_at, record_at, with_aside}
-use Rattle.steps.specs.inside.SetAside.{AsideIn, IsKnown, IsLocked, StaysFor, aside_at, is_aside, put_aside}
+use Rattle.steps.specs.inside.SetAside.{AsideIn, IsKnown, IsLocked, SameRecords, StaysFor, aside_at, is_aside, put_aside}
 use Rattle.steps.specs.declared.reclaiming.Aside.{Aside}
 use Rattle.steps.specs.declared.reclaiming.Aside.TheVariants.{Unknown, Collected, CollectedOrLocked}
+use Rattle.steps.proofs.store.RecordEdits.{versions_aside}
 
 -- is the record, if there is one, a candidate?
 abbrev pub is_candidate : Option StoreRecord → Bool
@@ -30,19 +31,26 @@ here b slots i = edited_here (option_map (with_aside b)) refl slots i
 other : (b : Bool) (slots : Slots) (i j : ℕ) → j ≢ i → record_at (changed (with_aside b) slots i) j ≡ record_at slots j
 other b slots i j differs = get_or-set_other slots i j (option_map (with_aside b) (record_at slots i)) None differs
 
-pub slots_stay : (b : Bool) (slots : Slots) (i : ℕ) → length (changed (with_aside b) slots i) ≡ length slots
+slots_stay : (b : Bool) (slots : Slots) (i : ℕ) → length (changed (with_aside b) slots i) ≡ length slots
 slots_stay b slots i = length-set slots i (option_map (with_aside b) (record_at slots i))
 
 key_stays : (b : Bool) (o : Option StoreRecord) → option_map (λ r. r.key) (option_map (with_aside b) o) ≡ option_map (λ r. r.key) o
 key_stays b None = refl
 key_stays b (Some r) = refl
 
-pub keys_stay : (b : Bool) (slots : Slots) (i j : ℕ) → key_at (changed (with_aside b) slots i) j ≡ key_at slots j
+keys_stay : (b : Bool) (slots : Slots) (i j : ℕ) → key_at (changed (with_aside b) slots i) j ≡ key_at slots j
 keys_stay b slots i j =
     elim (cases_eq j i) [
       | inl e ↦ rw e (ap (option_map (λ (r : StoreRecord). r.key)) (here b slots i) ∙ key_stays b (record_at slots i))
       | inr differs ↦ ap (option_map (λ (r : StoreRecord). r.key)) (other b slots i j differs)
     ]
+
+-- who is set aside is all that changes
+pub set_aside_same : (aside : Bool) (slots : Slots) (i : ℕ) → SameRecords slots (changed (with_aside aside) slots i)
+set_aside_same aside slots i = record { slots = slots_stay aside slots i; keys = keys_stay aside slots i; versions = versions_aside aside slots i }
+
+pub same_then : {a b c : Slots} → SameRecords a b → SameRecords b c → SameRecords a c
+same_then first then = record { slots = then.slots ∙ first.slots; keys = λ i. then.keys i ∙ first.keys i; versions = λ q. then.versions q ∙ first.versions q }
 
 -- WHO IS ASIDE
 

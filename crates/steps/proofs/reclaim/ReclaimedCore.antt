@@ -11,7 +11,7 @@ use Rattle.record_store.proofs.Versions.{version_of-reclaimed}
 use Rattle.record_store.specs.ChangedSets.{has}
 use Rattle.record_store.specs.Stores.{IsLeastCandidate, HasKeysOnce, StoreRecord, Slots, candidate_at, key_at, reclaimed, record_at, unless_dead}
 use Rattle.record_store.specs.Versions as stored
-use Rattle.steps.specs.inside.SetAside.{AsideIn, IsKnown, aside_at, is_aside}
+use Rattle.steps.specs.inside.SetAside.{AsideIn, IsKnown, SameRecords, aside_at, is_aside}
 use Rattle.steps.specs.inside.CoreFields.{IsCore, either, view_of}
 use Rattle.steps.specs.CoreViews.{CoreView}
 use Rattle.steps.specs.Versions.{key_versions, versions_in, KeyVersions, VersionsByKey}
@@ -24,7 +24,7 @@ use Rattle.steps.specs.machine.Machine.{MayReclaim, Runs, State, initial, more, 
 use Rattle.steps.specs.declared.cores.Core.TheInside.{Inside}
 use Rattle.steps.specs.declared.reclaiming.Aside.{Aside}
 use Rattle.steps.specs.declared.reclaiming.Aside.TheVariants.{CollectedOrLocked}
-use Rattle.steps.proofs.reclaim.Candidates.{either_reason}
+use Rattle.steps.proofs.reclaim.Candidates.{either_reason, same_then}
 use Rattle.steps.proofs.machine.OpenCalls.{none_some}
 use Rattle.steps.proofs.reclaim.ReclaimableKeys.{IsDead, candidate_dead, candidate_reclaims, dead_key, least_is, least_offered, no_frozen, none_is}
 use Rattle.steps.proofs.reclaim.SetAside.{aside_kept}
@@ -177,26 +177,21 @@ module _ {A : Type 0} (c : Inside A) (ok : IsCore c) (phase : c.phase ≡ Rest) 
     pub known : IsKnown aside
     pub reasons : AsideIn aside store (has c.changed.collecting) c.locks
     pub once : HasKeysOnce store
-    pub slots : length store ≡ length c.store
-    pub keys : (i : ℕ) → key_at store i ≡ key_at c.store i
-    pub versions : (q : Bytes) → versions_in store q ≡ versions_in c.store q
+    pub records : SameRecords c.store store
 
   -- by two changes, one after the other
-  pub learnt_by :
-      (mid : Slots) → IsKnown aside → AsideIn aside store (has c.changed.collecting) c.locks → HasKeysOnce store →
-      length store ≡ length mid → ((i : ℕ) → key_at store i ≡ key_at mid i) → ((q : Bytes) → versions_in store q ≡ versions_in mid q) →
-      length mid ≡ length c.store → ((i : ℕ) → key_at mid i ≡ key_at c.store i) → ((q : Bytes) → versions_in mid q ≡ versions_in c.store q) → IsLearnt
-  learnt_by mid known reasons once l k v m n w = record { known = known; reasons = reasons; once = once; slots = l ∙ m; keys = λ i. k i ∙ n i; versions = λ q. v q ∙ w q }
+  pub learnt_by : (mid : Slots) → IsKnown aside → AsideIn aside store (has c.changed.collecting) c.locks → HasKeysOnce store → SameRecords mid store → SameRecords c.store mid → IsLearnt
+  learnt_by mid known reasons once later first = record { known = known; reasons = reasons; once = once; records = same_then first later }
 
   module _ (is : IsLearnt) (v : CoreView) (same : view_of c ≡ v) where
     stays : AsideIn CollectedOrLocked store (has c.changed.collecting) c.locks
     stays = either_reason aside store (has c.changed.collecting) c.locks is.known is.reasons
 
     pub none_core : IsCore (with_store c ok phase store aside)
-    none_core = same_core c ok phase store aside is.versions is.reasons
+    none_core = same_core c ok phase store aside is.records.versions is.reasons
 
     pub none_key : IsLeastCandidate store None → IsReclaimable v None
-    none_key least = subst (λ (u : CoreView). IsReclaimable u None) same (none_is c ok phase store is.versions stays least)
+    none_key least = subst (λ (u : CoreView). IsReclaimable u None) same (none_is c ok phase store is.records.versions stays least)
 
     -- the candidate goes
     module _ (slot : ℕ) (key : Bytes) (least : IsLeastCandidate store (Some slot)) (key_is : key_at store slot ≡ Some key) (uncollected : has c.changed.collecting key ≡ false)
@@ -208,19 +203,19 @@ module _ {A : Type 0} (c : Inside A) (ok : IsCore c) (phase : c.phase ≡ Rest) 
       dead = candidate_dead store slot key offered
 
       versions_left : (q : Bytes) → versions_in left q ≡ without (Some key) q (versions_in c.store q)
-      versions_left q = ap (λ (l : Slots). versions_in l q) left_is ∙ reclaimed_versions store slot key dead is.once q ∙ ap (without (Some key) q) (is.versions q)
+      versions_left q = ap (λ (l : Slots). versions_in l q) left_is ∙ reclaimed_versions store slot key dead is.once q ∙ ap (without (Some key) q) (is.records.versions q)
 
       pub some_core : IsCore (with_store c ok phase left aside)
       some_core =
-          let may = candidate_reclaims c ok phase store is.versions is.once slot key offered uncollected free in
+          let may = candidate_reclaims c ok phase store is.records.versions is.once slot key offered uncollected free in
           reclaim_core c ok phase left aside key may.0 may.1 versions_left
           (subst (λ (l : Slots). AsideIn aside l (has c.changed.collecting) c.locks) (sym left_is) (aside_reclaimed store slot key dead aside (has c.changed.collecting) c.locks is.reasons))
 
       pub some_key : IsReclaimable v (Some key)
-      some_key = subst (λ (u : CoreView). IsReclaimable u (Some key)) same (least_is c ok phase store is.versions stays is.once slot key least key_is uncollected free)
+      some_key = subst (λ (u : CoreView). IsReclaimable u (Some key)) same (least_is c ok phase store is.records.versions stays is.once slot key least key_is uncollected free)
 
       pub some_view : Reclaims v (view_of (with_store c ok phase left aside)) (Some key)
       some_view =
-          reclaim_view c ok phase left aside key v same (ap length left_is ∙ reclaimed_length store slot ∙ is.slots)
-          (λ i. ap (λ (l : Slots). key_at l i) left_is ∙ reclaimed_keys store slot key dead is.once i ∙ ap (left_of (Some key)) (is.keys i))
+          reclaim_view c ok phase left aside key v same (ap length left_is ∙ reclaimed_length store slot ∙ is.records.slots)
+          (λ i. ap (λ (l : Slots). key_at l i) left_is ∙ reclaimed_keys store slot key dead is.once i ∙ ap (left_of (Some key)) (is.records.keys i))
           versions_left

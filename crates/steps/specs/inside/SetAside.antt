@@ -1,8 +1,9 @@
 -- Which records are set aside from reclaim, and why.
-use Rattle.std.specs.Prelude.{◌≡◌, ◌⊎◌, ℕ, Bool, true, false, Option, Some, None, IsSome}
+use Rattle.std.specs.Prelude.{◌≡◌, ◌⊎◌, ℕ, Bool, true, false, Option, Some, None, IsSome, length}
 use Rattle.procedure.specs.Bytes.{Bytes}
 use Rattle.locktable.specs.Locks.{Locks, mode_of}
 use Rattle.record_store.specs.Stores.{StoreRecord, Slots, changed, key_at, record_at, with_aside}
+use Rattle.steps.specs.Versions.{versions_in}
 use Rattle.steps.specs.declared.reclaiming.Aside.{Aside}
 use Rattle.steps.specs.declared.reclaiming.Aside.TheVariants.{Unknown, Collected, CollectedOrLocked}
 
@@ -43,3 +44,9 @@ abbrev pub after_release : Aside → Aside
 after_release Unknown = Unknown
 after_release Collected = Collected
 after_release CollectedOrLocked = Unknown
+
+-- the same records in the same slots, whichever are set aside
+pub record SameRecords (old new : Slots) : Type 0 where
+  pub slots : length new ≡ length old
+  pub keys : (slot : ℕ) → key_at new slot ≡ key_at old slot
+  pub versions : (q : Bytes) → versions_in new q ≡ versions_in old q

@@ -1,9 +1,6 @@
-use Rattle.std.proofs.Common.{◌≡◌, ap, ◌∙◌, length, true}
-use Rattle.record_store.specs.Stores.{Slots, key_at}
-use Rattle.steps.specs.inside.SetAside.{put_aside}
-use Rattle.steps.specs.Versions.{versions_in}
-use Rattle.steps.proofs.reclaim.Candidates.{keys_stay, slots_stay}
-use Rattle.steps.proofs.store.RecordEdits.{versions_aside}
+use Rattle.std.proofs.Common.{subst, sym, ◌≡◌, true}
+use Rattle.steps.specs.inside.SetAside.{SameRecords, put_aside}
+use Rattle.steps.proofs.reclaim.Candidates.{same_then, set_aside_same}
 use Rattle.steps.proofs.reclaiming.next_to_go.Goals as goal
 
 pub loop-slot-preserved : goal.loop-slot-preserved
@@ -15,7 +12,5 @@ loop-slot-preserved g c =
     record {
       known = c.stays.ensures.known;
       reasons = c.stays.ensures.reasons;
-      slots = ap length is ∙ slots_stay true now i ∙ kept.slots;
-      keys = λ slot. ap (λ (slots : Slots). key_at slots slot) is ∙ keys_stay true now i slot ∙ kept.keys slot;
-      versions = λ q. ap (λ (slots : Slots). versions_in slots q) is ∙ versions_aside true now i q ∙ kept.versions q;
+      records = same_then kept.records (subst (SameRecords now) (sym is) (set_aside_same true now i));
     }

@@ -16,7 +16,7 @@ pub invariant_of-self : goal.invariant_of-self
 invariant_of-self g c =
     some_core c.self.inside c.self.invariant c.in-Rest.is c.next_to_go.new.store c.next_to_go.new.aside
     (learnt_by c.self.inside c.self.invariant c.in-Rest.is c.next_to_go.new.store c.next_to_go.new.aside c.learn.new.store c.next_to_go.ensures.known c.next_to_go.ensures.reasons
-    c.next_to_go.ensures.once c.next_to_go.ensures.slots c.next_to_go.ensures.keys c.next_to_go.ensures.versions c.learn.ensures.slots c.learn.ensures.keys c.learn.ensures.versions)
+    c.next_to_go.ensures.once c.next_to_go.ensures.records c.learn.ensures.records)
     c.args.self.now c.self.view_is c.in-Some.found.0 c.in-Some.found.1 c.in-Some.ensures.least c.in-Some.ensures.key c.in-Some.ensures.uncollected c.in-Some.ensures.free c.reclaim.new.self
     c.reclaim.ensures
 
@@ -24,13 +24,13 @@ pub invariant_of-self-in-None : goal.invariant_of-self-in-None
 invariant_of-self-in-None g c =
     none_core c.self.inside c.self.invariant c.in-Rest.is c.next_to_go.new.store c.next_to_go.new.aside
     (learnt_by c.self.inside c.self.invariant c.in-Rest.is c.next_to_go.new.store c.next_to_go.new.aside c.learn.new.store c.next_to_go.ensures.known c.next_to_go.ensures.reasons
-    c.next_to_go.ensures.once c.next_to_go.ensures.slots c.next_to_go.ensures.keys c.next_to_go.ensures.versions c.learn.ensures.slots c.learn.ensures.keys c.learn.ensures.versions)
+    c.next_to_go.ensures.once c.next_to_go.ensures.records c.learn.ensures.records)
     c.args.self.now c.self.view_is
 
 pub returns-in-Some : goal.returns-in-Some
 returns-in-Some g c =
     let learnt = learnt_by c.self.inside c.self.invariant c.in-Rest.is c.next_to_go.new.store c.next_to_go.new.aside c.learn.new.store c.next_to_go.ensures.known c.next_to_go.ensures.reasons
-    c.next_to_go.ensures.once c.next_to_go.ensures.slots c.next_to_go.ensures.keys c.next_to_go.ensures.versions c.learn.ensures.slots c.learn.ensures.keys c.learn.ensures.versions in
+    c.next_to_go.ensures.once c.next_to_go.ensures.records c.learn.ensures.records in
     record {
       key = some_key c.self.inside c.self.invariant c.in-Rest.is c.next_to_go.new.store c.next_to_go.new.aside learnt c.args.self.now c.self.view_is c.in-Some.found.0 c.in-Some.found.1
           c.in-Some.ensures.least c.in-Some.ensures.key c.in-Some.ensures.uncollected c.in-Some.ensures.free c.reclaim.new.self c.reclaim.ensures;
@@ -42,5 +42,5 @@ pub returns-in-None-clause-key : goal.returns-in-None-clause-key
 returns-in-None-clause-key g c =
     none_key c.self.inside c.self.invariant c.in-Rest.is c.next_to_go.new.store c.next_to_go.new.aside
     (learnt_by c.self.inside c.self.invariant c.in-Rest.is c.next_to_go.new.store c.next_to_go.new.aside c.learn.new.store c.next_to_go.ensures.known c.next_to_go.ensures.reasons
-    c.next_to_go.ensures.once c.next_to_go.ensures.slots c.next_to_go.ensures.keys c.next_to_go.ensures.versions c.learn.ensures.slots c.learn.ensures.keys c.learn.ensures.versions)
+    c.next_to_go.ensures.once c.next_to_go.ensures.records c.learn.ensures.records)
     c.args.self.now c.self.view_is c.in-None.ensures.least
