@@ -72,9 +72,6 @@ module _ {A : Type 0} where
   abbrev pub image_at : Checkpoint A → List taken.Entry → taken.Image
   image_at k es = of_captured k.kind k.number (base_at k.kind k.number k.finished) k.place es
 
-  pub same_image : (k : Checkpoint A) (es : List taken.Entry) (i : taken.Image) → i ≡ image_at k es → es ≡ k.given.entries → i ≡ image_at k k.given.entries
-  same_image k es i e f = e ∙ ap (image_at k) f
-
   pub same_lawful : (k : Checkpoint A) (es : List taken.Entry) → es ≡ k.given.entries → IsLawfulImage (image_at k k.given.entries) → IsLawfulImage (image_at k es)
   same_lawful k es f lawful = subst (λ l. IsLawfulImage (image_at k l)) (sym f) lawful
 
@@ -257,7 +254,10 @@ module _ {A : Type 0} (c : Inside A) (ok : IsCore c) (phase_is : c.phase ≡ Cap
 
     -- AN IMAGE WAITS
 
-    module _ (empty : Vec (Bytes × Cell) A) (i : taken.Image) (way : c.checkpoint.way ≡ Whole) (i_is : i ≡ made) where
+    module _ (empty list : Vec (Bytes × Cell) A) (i : taken.Image) (way : c.checkpoint.way ≡ Whole) (list_is : list.items ≡ c.checkpoint.captured.items) (image_is : i ≡ image_at c.checkpoint list.items) where
+      i_is : i ≡ made
+      i_is = image_is ∙ ap (image_at c.checkpoint) (all_given way list list_is)
+
       abbrev with_image : Checkpoint A
       with_image = record c.checkpoint { finished = c.checkpoint.number; captured = empty; waiting = Some i }
 

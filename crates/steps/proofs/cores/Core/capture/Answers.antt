@@ -5,6 +5,11 @@ use Rattle.steps.proofs.scans.CapturingCore.{visit_by, capture_core, capture_vie
 use Rattle.steps.proofs.views.CoreState.{phase_by}
 use Rattle.steps.proofs.cores.Core.capture.Goals as goal
 
+pub overflow_add-self : goal.overflow_add-self
+overflow_add-self g c =
+    let within = (scan_here c.self.inside c.self.invariant (phase_by c.self.inside c.self.invariant c.self.view_is (sym c.phase.ensures.value ∙ c.in-Capture.is))).within in
+    omega (arith, within)
+
 pub invariant_of-self : goal.invariant_of-self
 invariant_of-self g c = roomy_scan c.self.inside c.self.invariant c.reserve.new.self c.reserve.ensures.items c.self.inside.store refl
 
@@ -32,9 +37,3 @@ returns-clause-captured g c =
     (once_there c.self.inside.store c.spot_at-spot.result c.spot_at-spot.ensures.found) c.in-Ok.ensures.visits
     c.keep.ensures.captured c.keep.ensures.given c.reserve.ensures.items c.in-Ok.ensures.given)
     c.args.self.now c.self.view_is
-
-pub overflow_add-self : goal.overflow_add-self
-overflow_add-self g c =
-    let here = phase_by c.self.inside c.self.invariant c.self.view_is (sym c.phase.ensures.value ∙ c.in-Capture.is) in
-    let within = (scan_here c.self.inside c.self.invariant here).within in
-    omega (arith, within)

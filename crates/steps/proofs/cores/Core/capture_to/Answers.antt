@@ -7,6 +7,11 @@ use Rattle.steps.proofs.scans.CompletedImage.{few_given}
 use Rattle.steps.proofs.views.CoreState.{phase_by}
 use Rattle.steps.proofs.cores.Core.capture_to.Goals as goal
 
+pub overflow_add-self : goal.overflow_add-self
+overflow_add-self g c =
+    let within = (scan_here c.self.inside c.self.invariant (phase_by c.self.inside c.self.invariant c.self.view_is (sym c.phase.ensures.value ∙ c.in-Capture.is))).within in
+    omega (arith, within)
+
 pub send_spot-requires : goal.send_spot-requires
 send_spot-requires g c =
     let here = phase_by c.self.inside c.self.invariant c.self.view_is (sym c.phase.ensures.value ∙ c.in-Capture.is) in record {
@@ -44,9 +49,3 @@ returns-clause-captured g c =
     c.in-Streamed.is (phase_by c.self.inside c.self.invariant c.self.view_is (sym c.phase.ensures.value ∙ c.in-Capture.is))
     c.if-self.false c.spot_at-spot.ensures.key (once_there c.self.inside.store c.spot_at-spot.result c.spot_at-spot.ensures.found) c.in-Ok.ensures.visits c.in-Ok.ensures.sent)
     c.args.self.now c.self.view_is
-
-pub overflow_add-self : goal.overflow_add-self
-overflow_add-self g c =
-    let here = phase_by c.self.inside c.self.invariant c.self.view_is (sym c.phase.ensures.value ∙ c.in-Capture.is) in
-    let within = (scan_here c.self.inside c.self.invariant here).within in
-    omega (arith, within)

@@ -3,7 +3,7 @@ use Rattle.steps.specs.CoreViews.{CoreView}
 use Rattle.image.specs.Headers.{EachKeyOnce}
 use Rattle.phase.specs.declared.phases.Phase.TheVariants.{Capture}
 use Rattle.steps.proofs.scans.CapturingCore.{scan_here}
-use Rattle.steps.proofs.scans.CompletedImage.{all_given, image_core, image_view, made_lawful, same_image, same_lawful}
+use Rattle.steps.proofs.scans.CompletedImage.{all_given, image_core, image_view, made_lawful, same_lawful}
 use Rattle.steps.proofs.phases.AddedToken.{same_core}
 use Rattle.steps.proofs.phases.PhaseEnds.{advances_from}
 use Rattle.steps.proofs.cores.Core.complete_image.Goals as goal
@@ -26,16 +26,12 @@ invariant_of-self-2 g c =
     let way = ap (λ (v : CoreView). v.checkpoint.way) c.self.view_is ∙ c.requires.way in
     let free = advances_from c.self.inside c.self.invariant c.args.self.now c.self.view_is Capture c.requires.phase c.requires.free in
     image_core c.self.inside c.self.invariant free.is c.push_token.new.log c.clear_frozen.new.self free.scanned c.in_ok-push_token.ensures.ok c.clear_frozen.ensures c.taken_list-entries.new.captured
-    c.image_of-image.result way
-    (same_image c.self.inside.checkpoint c.taken_list-entries.result.items c.image_of-image.result c.image_of-image.ensures
-    (all_given c.self.inside c.self.invariant free.is way c.taken_list-entries.result c.taken_list-entries.ensures.entries))
+    c.taken_list-entries.result c.image_of-image.result way c.taken_list-entries.ensures.entries c.image_of-image.ensures
 
 pub returns-clause-ok : goal.returns-clause-ok
 returns-clause-ok g c =
     let way = ap (λ (v : CoreView). v.checkpoint.way) c.self.view_is ∙ c.requires.way in
     let free = advances_from c.self.inside c.self.invariant c.args.self.now c.self.view_is Capture c.requires.phase c.requires.free in
     image_view c.self.inside c.self.invariant free.is c.push_token.new.log c.clear_frozen.new.self free.scanned c.in_ok-push_token.ensures.ok c.clear_frozen.ensures c.taken_list-entries.new.captured
-    c.image_of-image.result way
-    (same_image c.self.inside.checkpoint c.taken_list-entries.result.items c.image_of-image.result c.image_of-image.ensures
-    (all_given c.self.inside c.self.invariant free.is way c.taken_list-entries.result c.taken_list-entries.ensures.entries))
+    c.taken_list-entries.result c.image_of-image.result way c.taken_list-entries.ensures.entries c.image_of-image.ensures
     c.args.self.now c.self.view_is
