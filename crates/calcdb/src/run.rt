@@ -244,7 +244,7 @@ fn push_answered<A: Allocator + Clone>(
 }
 
 /// The lines that are printed of a command, after what is there.
-fn push_shown<A: Allocator + Clone>(
+pub(crate) fn push_shown<A: Allocator + Clone>(
     out: &mut Vec<u8, A>,
     records: &[Record<A>],
     shown: &Shown<A>,
