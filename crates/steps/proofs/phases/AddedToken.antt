@@ -83,7 +83,8 @@ module _ {A : Type 0} (c : Inside A) (ok : IsCore c) where
 
     -- the core in the phase of that token, by the machine's state
     pub token_core :
-        (log : Log) → log.records ≡ records → (store : Slots) (changed : ChangedSets) (checkpoint : Checkpoint A) (aside : Aside) (w : State) → IsAfterToken w → Runs (initial c.catalog (table_of c.opening)) w →
+        (log : Log) → log.records ≡ records → (store : Slots) (changed : ChangedSets) (checkpoint : Checkpoint A) (aside : Aside) (w : State) →
+        IsAfterToken w → Runs (initial c.catalog (table_of c.opening)) w →
         ((q : Bytes) → w.versions q ≡ versions_in store q) → ((q : Bytes) → w.collecting q ≡ has changed.collecting q) → ((q : Bytes) → w.frozen q ≡ has changed.frozen q) →
         IsTracked checkpoint (spots checkpoint.kind store changed.frozen) w.phase w.number w.finished w.kind (length (before w.number w.log)) w.visited w.bound w.given w.images →
         AsideIn aside store (either changed) c.locks → IsCore (record c { log = log; store = store; changed = changed; checkpoint = checkpoint; aside = aside; phase = p })

@@ -80,7 +80,8 @@ module _ {A : Type 0} (c : Inside A) (ok : IsCore c) (log : Log) where
 
     pub resolve_core : IsCore after_resolve
     resolve_core =
-        token_core c ok Resolve ok.world.number log.records (number_here Resolve log_is) log refl c.store changed (record c.checkpoint { place = place }) c.aside (resolve ok.world) (refl, refl, refl, refl, refl)
+        token_core c ok Resolve ok.world.number log.records (number_here Resolve log_is) log refl c.store changed (record c.checkpoint { place = place }) c.aside
+        (resolve ok.world) (refl, refl, refl, refl, refl)
         (more ok.run (Resolves (ok.stands.phase ∙ phase_is) (all_started c ok Prepare free)))
         ok.stands.versions (λ q. sym (ap (λ (s : KeySet). has s q) collecting ∙ none_in_empty q)) (λ q. ok.stands.collecting q ∙ ap (λ (s : KeySet). has s q) (sym frozen))
         record {

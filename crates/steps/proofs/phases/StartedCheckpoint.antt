@@ -58,7 +58,8 @@ module _ {A : Type 0} (c : Inside A) (ok : IsCore c) (kind : Kind) (way : Way) (
 
   pub start_core : IsCore after_start
   start_core =
-      token_core c ok Prepare (suc ok.world.number) log.records log_as log refl c.store c.changed (record c.checkpoint { number = c.checkpoint.number + 1; kind = kind; way = way }) c.aside (start ok.world kind) (refl, refl, refl, refl, refl)
+      token_core c ok Prepare (suc ok.world.number) log.records log_as log refl c.store c.changed (record c.checkpoint { number = c.checkpoint.number + 1; kind = kind; way = way }) c.aside
+      (start ok.world kind) (refl, refl, refl, refl, refl)
       (more ok.run (Starts kind (ok.stands.phase ∙ at_rest)))
       ok.stands.versions ok.stands.collecting ok.stands.frozen
       record {

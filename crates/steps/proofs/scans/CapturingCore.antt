@@ -337,7 +337,8 @@ module _ {A : Type 0} where
     roomy_scan store e =
         subst (λ (s : Slots). IsCore (with_room s)) (sym e)
         (stored_core c ok c.store c.aside (record c.checkpoint { captured = kept }) ok.world.versions ok.world.given ok.world.visited refl refl refl refl ok.run ok.stands.versions
-        (scan_kept ok.world.phase c.checkpoint kept _ _ ok.world.visited ok.world.bound ok.world.given same_items (λ i q is. is) ok.stands.checkpoint.scan) ok.stands.checkpoint.waits ok.stands.checkpoint.heads
+        (scan_kept ok.world.phase c.checkpoint kept _ _ ok.world.visited ok.world.bound ok.world.given same_items (λ i q is. is) ok.stands.checkpoint.scan)
+        ok.stands.checkpoint.waits ok.stands.checkpoint.heads
         ok.stands.checkpoint.none_yet ok.aside)
 
 -- before a scan the list of what it captures says nothing

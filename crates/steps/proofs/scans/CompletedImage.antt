@@ -239,7 +239,8 @@ module _ {A : Type 0} (c : Inside A) (ok : IsCore c) (phase_is : c.phase ≡ Cap
         IsCore (record c { log = log; changed = changed; phase = Complete; checkpoint = k; aside = Unknown })
     completed k number finished kind waits heads =
         token_core c ok Complete w.number log.records (number_here c ok log Complete log_is) log refl c.store changed k Unknown (complete w) (refl, refl, refl, refl, refl) (completes all_visited)
-        ok.stands.versions (λ q. ok.stands.collecting q ∙ ap (λ (s : ChangedSets). has s.collecting q) (sym changed_is)) (λ q. sym (ap (λ (s : ChangedSets). has s.frozen q) changed_is ∙ none_in_empty q))
+        ok.stands.versions (λ q. ok.stands.collecting q ∙ ap (λ (s : ChangedSets). has s.collecting q) (sym changed_is))
+        (λ q. sym (ap (λ (s : ChangedSets). has s.frozen q) changed_is ∙ none_in_empty q))
         record {
           number = ok.stands.checkpoint.number ∙ sym number;
           finished = ok.stands.checkpoint.number ∙ sym finished;
@@ -254,7 +255,8 @@ module _ {A : Type 0} (c : Inside A) (ok : IsCore c) (phase_is : c.phase ≡ Cap
 
     -- AN IMAGE WAITS
 
-    module _ (empty list : Vec (Bytes × Cell) A) (i : taken.Image) (way : c.checkpoint.way ≡ Whole) (list_is : list.items ≡ c.checkpoint.captured.items) (image_is : i ≡ image_at c.checkpoint list.items) where
+    module _ (empty list : Vec (Bytes × Cell) A) (i : taken.Image) (way : c.checkpoint.way ≡ Whole) (list_is : list.items ≡ c.checkpoint.captured.items)
+        (image_is : i ≡ image_at c.checkpoint list.items) where
       i_is : i ≡ made
       i_is = image_is ∙ ap (image_at c.checkpoint) (all_given way list list_is)
 

@@ -121,7 +121,8 @@ module _ {A : Type 0} (c : Inside A) (ok : IsCore c) where
   }
 
   pub roomy_core :
-      (log : Log) (changed : ChangedSets) → log.records ≡ c.log.records → changed.collecting ≡ c.changed.collecting → changed.frozen ≡ c.changed.frozen → IsCore (record c { log = log; changed = changed })
+      (log : Log) (changed : ChangedSets) → log.records ≡ c.log.records → changed.collecting ≡ c.changed.collecting → changed.frozen ≡ c.changed.frozen →
+      IsCore (record c { log = log; changed = changed })
   roomy_core log changed = roomy_fields c.calls log changed c.rooms refl
 
   pub other_rooms : (rooms : Vec (Vec (Note A) A) A) → IsCore (record c { rooms = rooms })

@@ -119,7 +119,8 @@ spots_kept Partial slots new frozen keeps i q is = is
 module _ {A : Type 0} where
   -- the scan goes on, where each place keeps its key, and what was captured stands in another list
   pub scan_kept :
-      (p : Phase) (k : Checkpoint A) (list : Vec (Bytes × Cell) A) (spot next : ℕ → Option Bytes) (seen wanted : Bytes → Bool) (given : Changes) → list.items ≡ k.captured.items → ((i : ℕ) (q : Bytes) → spot i ≡ Some q → next i ≡ Some q) →
+      (p : Phase) (k : Checkpoint A) (list : Vec (Bytes × Cell) A) (spot next : ℕ → Option Bytes) (seen wanted : Bytes → Bool) (given : Changes) → list.items ≡ k.captured.items →
+      ((i : ℕ) (q : Bytes) → spot i ≡ Some q → next i ≡ Some q) →
       ScansIn p k spot seen wanted given → ScansIn p (record k { captured = list }) next seen wanted given
   scan_kept Capture k list spot next seen wanted given e keeps scan = record {
     visited = λ q is. let (i, below, at) = scan.visited q is in (i, below, keeps i q at);

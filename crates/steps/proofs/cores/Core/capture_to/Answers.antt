@@ -30,7 +30,8 @@ pub returns-in-Err-clause-refusal : goal.returns-in-Err-clause-refusal
 returns-in-Err-clause-refusal g c =
     inr (
       search rules,
-      refused_to c.self.inside c.self.invariant (phase_by c.self.inside c.self.invariant c.self.view_is (sym c.phase.ensures.value ∙ c.in-Capture.is)) (key_of_spot c.spot_at-spot.result) c.spot_at-spot.ensures.key c.args.tap.now c.in-Err.refused c.in-Err.ensures.why
+      refused_to c.self.inside c.self.invariant (phase_by c.self.inside c.self.invariant c.self.view_is (sym c.phase.ensures.value ∙ c.in-Capture.is))
+          (key_of_spot c.spot_at-spot.result) c.spot_at-spot.ensures.key c.args.tap.now c.in-Err.refused c.in-Err.ensures.why
           c.args.self.now c.self.view_is,
     )
 
