@@ -131,6 +131,6 @@ module _ {A : Type 0} where
       becomes old new new (answer_of old s o.0 ∷ []) 1 refl f.same.catalog f.same.opening f.log refl
   finishes old new s (Err e) h = as_before old new h.refused
 
-  pub counted : (new old was : ℕ) (r : Result (Answer A) FinishError) → new ≡ old + added r → old ≡ was → MatchResult r (λ _. new ≡ was + 1) (λ _. new ≡ was)
-  counted new old was (Ok a) is same = is ∙ ap (λ (n : ℕ). n + 1) same
-  counted new old was (Err e) is same = is ∙ (add-zero old ∙ same)
+  pub counted : (new was : ℕ) (r : Result (Answer A) FinishError) → new ≡ was + added r → MatchResult r (λ _. new ≡ was + 1) (λ _. new ≡ was)
+  counted new was (Ok a) is = is
+  counted new was (Err e) is = is ∙ add-zero was

@@ -15,7 +15,7 @@ use Rattle.image.specs.declared.images.Kind.TheVariants.{Full, Partial}
 use Rattle.steps.specs.CoreViews.{CoreView}
 use Rattle.steps.specs.CutImages.{AllTaken, IsOfKind, plain}
 use Rattle.workers.specs.Claims.{is_call}
-use Rattle.workers.specs.Checkpointed.{AreCuts, ImagesStay, KeepsOrigin, call_count}
+use Rattle.workers.specs.Checkpointed.{AreCuts, Checkpointed, ImagesStay, KeepsOrigin, LogGrows, call_count}
 
 of_kind-stays : (c : List Procedure) (t : Table) (l m : List Record) (i : Image) → KeepsImages → IsCyclic l → HasCut l i.number → (k : Kind) → IsOfKind k c t l (plain i) → IsOfKind k c t (l ++ m) (plain i)
 of_kind-stays c t l m i keeps cyclic cut Full is = (keeps c t l m (plain i) cyclic cut).full is
@@ -47,7 +47,7 @@ cuts_grow stay old new n is g cyclic cuts =
     (subst (λ (o : Image). P old.catalog o new.log) (sym g.opening)
     (subst (λ (l : List Record). P old.catalog old.opening l) (sym g.log) (all_stay stay old.catalog (table_of old.opening) old.log g.more cyclic is cuts)))
 
-pub count_grows : (old new : CoreView) (n : ℕ) → Grows old new n → call_count new.log ≡ call_count old.log + n
+count_grows : (old new : CoreView) (n : ℕ) → Grows old new n → call_count new.log ≡ call_count old.log + n
 count_grows old new n g = ap call_count g.log ∙ (sum_by-append (λ r. cond (is_call r) 1 0) old.log g.more ∙ ap (λ (m : ℕ). call_count old.log + m) g.count)
 
 -- what a core has after a call that adds no record
@@ -63,11 +63,33 @@ cuts_keep old new is k cuts =
     (subst (λ (o : Image). P old.catalog o new.log) (sym k.opening)
     (subst (λ (l : List Record). P old.catalog old.opening l) (sym k.log) cuts))
 
-pub count_keeps : (old new : CoreView) → Keeps old new → call_count new.log ≡ call_count old.log
-count_keeps old new k = ap call_count k.log
+-- A call of a core with its images is one of its core, seen through the view. P is what the core promises of it.
+pub record AddsNone (was inside : Checkpointed) (new : CoreView) (P : CoreView → Type 0) : Type 0 where
+  pub core : P was.core
+  pub images : inside.images ≡ was.images
+  pub origin : KeepsOrigin was.core new
+  pub log : new.log ≡ was.core.log
+  pub calls : call_count new.log ≡ call_count was.core.log
 
-pub origin_grows : (old new : CoreView) (n : ℕ) → Grows old new n → KeepsOrigin old new
-origin_grows old new n g = (g.catalog, g.opening)
+pub adds_none : (was inside : Checkpointed) (new : CoreView) (P : CoreView → Type 0) →
+    inside ≡ was → P inside.core → ((old : CoreView) → P old → Keeps old new) → AddsNone was inside new P
+adds_none was inside new P is promise keeps =
+    let core : P was.core = subst (λ (v : Checkpointed). P v.core) is promise in
+    let k = keeps was.core core in
+    let images : inside.images ≡ was.images = ap (λ (v : Checkpointed). v.images) is in
+    record { core = core; images = images; origin = (k.catalog, k.opening); log = k.log; calls = ap call_count k.log }
 
-pub origin_keeps : (old new : CoreView) → Keeps old new → KeepsOrigin old new
-origin_keeps old new k = (k.catalog, k.opening)
+pub record AddsSome (was inside : Checkpointed) (new : CoreView) (n : ℕ) (P : CoreView → Type 0) : Type 0 where
+  pub core : P was.core
+  pub images : inside.images ≡ was.images
+  pub origin : KeepsOrigin was.core new
+  pub log : LogGrows was.core.log new.log
+  pub calls : call_count new.log ≡ call_count was.core.log + n
+
+pub adds_some : (was inside : Checkpointed) (new : CoreView) (n : ℕ) (P : CoreView → Type 0) →
+    inside ≡ was → P inside.core → ((old : CoreView) → P old → Grows old new n) → AddsSome was inside new n P
+adds_some was inside new n P is promise grows =
+    let core : P was.core = subst (λ (v : Checkpointed). P v.core) is promise in
+    let g = grows was.core core in
+    let images : inside.images ≡ was.images = ap (λ (v : Checkpointed). v.images) is in
+    record { core = core; images = images; origin = (g.catalog, g.opening); log = (g.more, g.log); calls = count_grows was.core new n g }

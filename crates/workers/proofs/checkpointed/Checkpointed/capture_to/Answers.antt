@@ -1,46 +1,17 @@
-use Rattle.std.proofs.Common.{ap, ◌∙◌, subst}
 use Rattle.workers.specs.Streams.{SendsAs}
-use Rattle.workers.specs.Checkpointed.{Checkpointed, KeepsOrigin, call_count}
 use Rattle.workers.proofs.CoreGrowth.{sends}
-use Rattle.workers.proofs.Growth.{count_keeps, cuts_keep, origin_keeps}
+use Rattle.workers.proofs.Growth.{adds_none, cuts_keep}
 use Rattle.workers.proofs.checkpointed.Checkpointed.capture_to.Goals as goal
+use Rattle.workers.proofs.checkpointed.Checkpointed.capture_to.Goals.{After-capture_to}
+
+promise : (g : _) (c : After-capture_to g) → SendsAs c.self.inside.core c.capture_to.new.self c.args.tap.now c.capture_to.new.tap c.capture_to.result
+promise g c = let e = c.capture_to.ensures in record { captured = e.captured; sent = e.sent; refused = e.refused; refusal = e.refusal }
 
 pub invariant_of-self : goal.invariant_of-self
-invariant_of-self g c =
-    let e = c.capture_to.ensures in
-    let old = c.self.inside.core in
-    let new = c.capture_to.new.self in
-    let h : SendsAs old new c.args.tap.now c.capture_to.new.tap c.capture_to.result = record { captured = e.captured; sent = e.sent; refused = e.refused; refusal = e.refusal } in
-    cuts_keep old new c.self.inside.images.items (sends old new c.args.tap.now c.capture_to.new.tap c.capture_to.result h) c.self.invariant
+invariant_of-self g c = cuts_keep c.self.inside.core c.capture_to.new.self _ (sends _ _ _ _ _ (promise g (goal.at.invariant_of-self g c).After-capture_to)) c.self.invariant
 
-pub returns-clause-core : goal.returns-clause-core
-returns-clause-core g c =
-    let e = c.capture_to.ensures in
-    let old = c.self.inside.core in
-    let new = c.capture_to.new.self in
-    let h : SendsAs old new c.args.tap.now c.capture_to.new.tap c.capture_to.result = record { captured = e.captured; sent = e.sent; refused = e.refused; refusal = e.refusal } in
-    subst (λ (v : Checkpointed). SendsAs v.core new c.args.tap.now c.capture_to.new.tap c.capture_to.result) c.self.view_is h
-
-pub returns-clause-calls : goal.returns-clause-calls
-returns-clause-calls g c =
-    let e = c.capture_to.ensures in
-    let old = c.self.inside.core in
-    let new = c.capture_to.new.self in
-    let h : SendsAs old new c.args.tap.now c.capture_to.new.tap c.capture_to.result = record { captured = e.captured; sent = e.sent; refused = e.refused; refusal = e.refusal } in
-    count_keeps old new (sends old new c.args.tap.now c.capture_to.new.tap c.capture_to.result h) ∙ ap (λ (v : Checkpointed). call_count v.core.log) c.self.view_is
-
-pub returns-clause-log : goal.returns-clause-log
-returns-clause-log g c =
-    let e = c.capture_to.ensures in
-    let old = c.self.inside.core in
-    let new = c.capture_to.new.self in
-    let h : SendsAs old new c.args.tap.now c.capture_to.new.tap c.capture_to.result = record { captured = e.captured; sent = e.sent; refused = e.refused; refusal = e.refusal } in
-    (sends old new c.args.tap.now c.capture_to.new.tap c.capture_to.result h).log ∙ ap (λ (v : Checkpointed). v.core.log) c.self.view_is
-
-pub returns-clause-origin : goal.returns-clause-origin
-returns-clause-origin g c =
-    let e = c.capture_to.ensures in
-    let old = c.self.inside.core in
-    let new = c.capture_to.new.self in
-    let h : SendsAs old new c.args.tap.now c.capture_to.new.tap c.capture_to.result = record { captured = e.captured; sent = e.sent; refused = e.refused; refusal = e.refusal } in
-    subst (λ (v : Checkpointed). KeepsOrigin v.core new) c.self.view_is (origin_keeps old new (sends old new c.args.tap.now c.capture_to.new.tap c.capture_to.result h))
+pub returns : goal.returns
+returns g c =
+    let a = adds_none _ _ _ (λ old. SendsAs old c.capture_to.new.self c.args.tap.now c.capture_to.new.tap c.capture_to.result)
+    c.self.view_is (promise g (goal.at.returns g c).After-capture_to) (λ old. sends old _ _ _ _) in
+    record { core = a.core; ring = c.capture_to.ensures.ring; images = a.images; origin = a.origin; log = a.log; calls = a.calls }

@@ -1,47 +1,19 @@
-use Rattle.std.proofs.Common.{ap, ◌∙◌, subst, add-zero}
+use Rattle.std.proofs.Common.{◌∙◌, add-zero}
 use Rattle.steps.specs.Schedules.{StartsAs}
-use Rattle.workers.specs.Checkpointed.{Checkpointed, LogGrows, KeepsOrigin, call_count}
 use Rattle.workers.proofs.CoreGrowth.{starts}
-use Rattle.workers.proofs.Growth.{count_grows, cuts_grow, origin_grows}
+use Rattle.workers.proofs.Growth.{adds_some, cuts_grow}
 use Rattle.workers.proofs.checkpointed.Checkpointed.start.Goals as goal
+use Rattle.workers.proofs.checkpointed.Checkpointed.start.Goals.{After-start}
+
+promise : (g : _) (c : After-start g) → StartsAs c.self.inside.core c.start.new.self c.args.kind c.start.result
+promise g c = let e = c.start.ensures in record { started = e.started; number = e.number; refused = e.refused; refusal = e.refusal }
 
 pub invariant_of-self : goal.invariant_of-self
 invariant_of-self g c =
-    let e = c.start.ensures in
-    let old = c.self.inside.core in
-    let new = c.start.new.self in
-    let h : StartsAs old new c.args.kind c.start.result = record { started = e.started; number = e.number; refused = e.refused; refusal = e.refusal } in
-    cuts_grow c.images_stay_law.ensures old new 0 c.self.inside.images.items (starts old new c.args.kind c.start.result h) c.records-records.ensures.cyclic c.self.invariant
+    let grown = starts _ _ _ _ (promise g (goal.at.invariant_of-self g c).After-start) in
+    cuts_grow c.images_stay_law.ensures c.self.inside.core c.start.new.self 0 _ grown c.records-records.ensures.cyclic c.self.invariant
 
-pub returns-clause-core : goal.returns-clause-core
-returns-clause-core g c =
-    let e = c.start.ensures in
-    let old = c.self.inside.core in
-    let new = c.start.new.self in
-    let h : StartsAs old new c.args.kind c.start.result = record { started = e.started; number = e.number; refused = e.refused; refusal = e.refusal } in
-    subst (λ (v : Checkpointed). StartsAs v.core new c.args.kind c.start.result) c.self.view_is h
-
-pub returns-clause-calls : goal.returns-clause-calls
-returns-clause-calls g c =
-    let e = c.start.ensures in
-    let old = c.self.inside.core in
-    let new = c.start.new.self in
-    let h : StartsAs old new c.args.kind c.start.result = record { started = e.started; number = e.number; refused = e.refused; refusal = e.refusal } in
-    count_grows old new 0 (starts old new c.args.kind c.start.result h) ∙ (add-zero (call_count old.log) ∙ ap (λ (v : Checkpointed). call_count v.core.log) c.self.view_is)
-
-pub returns-clause-log : goal.returns-clause-log
-returns-clause-log g c =
-    let e = c.start.ensures in
-    let old = c.self.inside.core in
-    let new = c.start.new.self in
-    let h : StartsAs old new c.args.kind c.start.result = record { started = e.started; number = e.number; refused = e.refused; refusal = e.refusal } in
-    let grown = starts old new c.args.kind c.start.result h in
-    subst (λ (v : Checkpointed). LogGrows v.core.log new.log) c.self.view_is (grown.more, grown.log)
-
-pub returns-clause-origin : goal.returns-clause-origin
-returns-clause-origin g c =
-    let e = c.start.ensures in
-    let old = c.self.inside.core in
-    let new = c.start.new.self in
-    let h : StartsAs old new c.args.kind c.start.result = record { started = e.started; number = e.number; refused = e.refused; refusal = e.refusal } in
-    subst (λ (v : Checkpointed). KeepsOrigin v.core new) c.self.view_is (origin_grows old new 0 (starts old new c.args.kind c.start.result h))
+pub returns : goal.returns
+returns g c =
+    let a = adds_some _ _ _ 0 (λ old. StartsAs old c.start.new.self c.args.kind c.start.result) c.self.view_is (promise g (goal.at.returns g c).After-start) (λ old. starts old _ _ _) in
+    record { core = a.core; images = a.images; origin = a.origin; log = a.log; calls = a.calls ∙ add-zero _ }

@@ -1,47 +1,20 @@
-use Rattle.std.proofs.Common.{ap, ◌∙◌, subst, add-zero}
+use Rattle.std.proofs.Common.{◌∙◌, add-zero}
 use Rattle.workers.specs.Streams.{StreamsAs}
-use Rattle.workers.specs.Checkpointed.{Checkpointed, LogGrows, KeepsOrigin, call_count}
 use Rattle.workers.proofs.CoreGrowth.{streams}
-use Rattle.workers.proofs.Growth.{count_grows, cuts_grow, origin_grows}
+use Rattle.workers.proofs.Growth.{adds_some, cuts_grow}
 use Rattle.workers.proofs.checkpointed.Checkpointed.start_streamed.Goals as goal
+use Rattle.workers.proofs.checkpointed.Checkpointed.start_streamed.Goals.{After-start_streamed}
+
+promise : (g : _) (c : After-start_streamed g) → StreamsAs c.self.inside.core c.start_streamed.new.self c.args.kind c.start_streamed.result
+promise g c = let e = c.start_streamed.ensures in record { started = e.started; number = e.number; refused = e.refused; refusal = e.refusal }
 
 pub invariant_of-self : goal.invariant_of-self
 invariant_of-self g c =
-    let e = c.start_streamed.ensures in
-    let old = c.self.inside.core in
-    let new = c.start_streamed.new.self in
-    let h : StreamsAs old new c.args.kind c.start_streamed.result = record { started = e.started; number = e.number; refused = e.refused; refusal = e.refusal } in
-    cuts_grow c.images_stay_law.ensures old new 0 c.self.inside.images.items (streams old new c.args.kind c.start_streamed.result h) c.records-records.ensures.cyclic c.self.invariant
+    let grown = streams _ _ _ _ (promise g (goal.at.invariant_of-self g c).After-start_streamed) in
+    cuts_grow c.images_stay_law.ensures c.self.inside.core c.start_streamed.new.self 0 _ grown c.records-records.ensures.cyclic c.self.invariant
 
-pub returns-clause-core : goal.returns-clause-core
-returns-clause-core g c =
-    let e = c.start_streamed.ensures in
-    let old = c.self.inside.core in
-    let new = c.start_streamed.new.self in
-    let h : StreamsAs old new c.args.kind c.start_streamed.result = record { started = e.started; number = e.number; refused = e.refused; refusal = e.refusal } in
-    subst (λ (v : Checkpointed). StreamsAs v.core new c.args.kind c.start_streamed.result) c.self.view_is h
-
-pub returns-clause-calls : goal.returns-clause-calls
-returns-clause-calls g c =
-    let e = c.start_streamed.ensures in
-    let old = c.self.inside.core in
-    let new = c.start_streamed.new.self in
-    let h : StreamsAs old new c.args.kind c.start_streamed.result = record { started = e.started; number = e.number; refused = e.refused; refusal = e.refusal } in
-    count_grows old new 0 (streams old new c.args.kind c.start_streamed.result h) ∙ (add-zero (call_count old.log) ∙ ap (λ (v : Checkpointed). call_count v.core.log) c.self.view_is)
-
-pub returns-clause-log : goal.returns-clause-log
-returns-clause-log g c =
-    let e = c.start_streamed.ensures in
-    let old = c.self.inside.core in
-    let new = c.start_streamed.new.self in
-    let h : StreamsAs old new c.args.kind c.start_streamed.result = record { started = e.started; number = e.number; refused = e.refused; refusal = e.refusal } in
-    let grown = streams old new c.args.kind c.start_streamed.result h in
-    subst (λ (v : Checkpointed). LogGrows v.core.log new.log) c.self.view_is (grown.more, grown.log)
-
-pub returns-clause-origin : goal.returns-clause-origin
-returns-clause-origin g c =
-    let e = c.start_streamed.ensures in
-    let old = c.self.inside.core in
-    let new = c.start_streamed.new.self in
-    let h : StreamsAs old new c.args.kind c.start_streamed.result = record { started = e.started; number = e.number; refused = e.refused; refusal = e.refusal } in
-    subst (λ (v : Checkpointed). KeepsOrigin v.core new) c.self.view_is (origin_grows old new 0 (streams old new c.args.kind c.start_streamed.result h))
+pub returns : goal.returns
+returns g c =
+    let a = adds_some _ _ _ 0 (λ old. StreamsAs old c.start_streamed.new.self c.args.kind c.start_streamed.result)
+    c.self.view_is (promise g (goal.at.returns g c).After-start_streamed) (λ old. streams old _ _ _) in
+    record { core = a.core; images = a.images; origin = a.origin; log = a.log; calls = a.calls ∙ add-zero _ }
