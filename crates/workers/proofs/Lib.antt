@@ -1,4 +1,3 @@
-mod CopiedItems
 pub mod CoreGrowth
 pub mod Counting
 pub mod Faults
