@@ -118,14 +118,10 @@ impl<L: Beginning<K>, K: Keeper<A> + Drop, A: Allocator + Clone> Locked<L, K, A>
             keeper,
         } = self;
         let before = held.count_records();
-        match held.finish(session) {
-            Ok(answer) => {
-                tell_records(keeper, held, before);
-                calls.add(&mut tally.part, 1);
-                Ok(answer)
-            }
-            Err(refusal) => Err(refusal),
-        }
+        let answer = held.finish(session)?;
+        tell_records(keeper, held, before);
+        calls.add(&mut tally.part, 1);
+        Ok(answer)
     }
 
     pub fn give_up(&mut self, session: u16) -> Result<(), NotActive>
@@ -145,13 +141,9 @@ impl<L: Beginning<K>, K: Keeper<A> + Drop, A: Allocator + Clone> Locked<L, K, A>
     {
         let Locked { held, keeper, .. } = self;
         let before = held.count_records();
-        match held.start(kind) {
-            Ok(number) => {
-                tell_records(keeper, held, before);
-                Ok(number)
-            }
-            Err(refusal) => Err(refusal),
-        }
+        let number = held.start(kind)?;
+        tell_records(keeper, held, before);
+        Ok(number)
     }
 
     pub fn start_streamed(&mut self, kind: Kind) -> Result<u64, StartError>
@@ -159,13 +151,9 @@ impl<L: Beginning<K>, K: Keeper<A> + Drop, A: Allocator + Clone> Locked<L, K, A>
     {
         let Locked { held, keeper, .. } = self;
         let before = held.count_records();
-        match held.start_streamed(kind) {
-            Ok(number) => {
-                tell_records(keeper, held, before);
-                Ok(number)
-            }
-            Err(refusal) => Err(refusal),
-        }
+        let number = held.start_streamed(kind)?;
+        tell_records(keeper, held, before);
+        Ok(number)
     }
 
     pub fn advance(&mut self) -> Result<Phase, AdvanceError>
@@ -173,13 +161,9 @@ impl<L: Beginning<K>, K: Keeper<A> + Drop, A: Allocator + Clone> Locked<L, K, A>
     {
         let Locked { held, keeper, .. } = self;
         let before = held.count_records();
-        match held.advance() {
-            Ok(phase) => {
-                tell_records(keeper, held, before);
-                Ok(phase)
-            }
-            Err(refusal) => Err(refusal),
-        }
+        let phase = held.advance()?;
+        tell_records(keeper, held, before);
+        Ok(phase)
     }
 
     pub fn capture(&mut self) -> Result<Captured, CaptureError>

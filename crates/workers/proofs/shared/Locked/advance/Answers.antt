@@ -2,8 +2,8 @@ use Rattle.std.proofs.Common.{ap, drop}
 use Rattle.workers.proofs.Keeping.{more_kept}
 use Rattle.workers.proofs.shared.Locked.advance.Goals as goal
 
-pub invariant_of-self-clause-kept : goal.invariant_of-self-clause-kept
-invariant_of-self-clause-kept g c =
+pub invariant_of-self-2-clause-kept : goal.invariant_of-self-2-clause-kept
+invariant_of-self-2-clause-kept g c =
     let new = c.advance.new.self.core.log in
     more_kept g.K.Keeper.Has c.args.self.now.keeper c.tell_records.new.keeper g.L.Beginning.begun c.args.self.now.held.core.log new (drop c.count_records-before.result new) c.tell_records.ensures
     (ap (λ n. drop n new) c.count_records-before.ensures) c.advance.ensures.log c.advance.ensures.images c.args.self.now.kept
