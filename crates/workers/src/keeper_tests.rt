@@ -5,7 +5,7 @@ ghost use Rattle.view.specs.Views.{name_of};
 
 use crate::gates::Open;
 use crate::keepers::Keeper;
-use crate::run_tests::{Begun, GET, Line, SET, SWAP, begun_with};
+use crate::run_tests::{Begun, TWO_SESSIONS, begun_with};
 use crate::runs::{NotRun, Report, run_kept};
 use crate::shares::Share;
 use commitlog::{Entry, Record};
@@ -171,17 +171,12 @@ fn run_in_view<J: Naming + Send + Sync, R: Threads + Wait + Sync>(
     }
 }
 
-const LINES: [&[Line]; 2] = [
-    &[(1, SET, b'a', 1), (2, GET, b'a', 0), (7, SWAP, b'a', 2)],
-    &[(1, SWAP, b'a', 3), (3, SET, b'b', 4), (4, GET, b'a', 0)],
-];
-
 /// A keeper that takes all, and one that takes no more once it was told of a record: then each session ends after
 /// its first answer.
 #[test]
 fn runs_with_a_keeper(rt: HostRuntime) -> Result<(), Fail> {
     for (most, answers) in [(1_000, [3, 3]), (0, [1, 1])] {
-        let begun = begun_with(rt.alloc(), &LINES)?;
+        let begun = begun_with(rt.alloc(), &TWO_SESSIONS)?;
         let ran = run_in_view::<Brand, _>(&rt, rt.alloc(), Opened::new(), begun, most)?;
         assert_eq!(rt; ran, Some((true, 2, answers)));
     }

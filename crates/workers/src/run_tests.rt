@@ -304,7 +304,20 @@ fn run_in_view<J: Naming + Send + Sync, R: Threads + Wait + Sync, G: Gate + Sync
     }
 }
 
-const TWO_SESSIONS: [&[Line]; 2] = [
+/// What a run of the sessions tells, in a view of its own, in which a key is looked up.
+fn run_sessions<R: Threads + Wait + Sync, G: Gate + Sync>(
+    rt: &R,
+    alloc: Global,
+    sessions: &[&[Line]],
+    kinds: &[Kind],
+    gate: &G,
+) -> Result<Option<(Outcome, Option<u64>)>, Fail> {
+    let key = Key::new(b"a").ok_or("no key")?;
+    let begun = begun_with(alloc, sessions)?;
+    run_in_view::<Brand, _, _>(rt, alloc, Opened::new(), begun, kinds, &key, gate)
+}
+
+pub(crate) const TWO_SESSIONS: [&[Line]; 2] = [
     &[(1, SET, b'a', 1), (2, GET, b'a', 0), (7, SWAP, b'a', 2)],
     &[(1, SWAP, b'a', 3), (3, SET, b'b', 4), (4, GET, b'a', 0)],
 ];
@@ -313,17 +326,7 @@ const TWO_SESSIONS: [&[Line]; 2] = [
 #[test]
 fn sessions_beside_checkpoints(rt: HostRuntime) -> Result<(), Fail> {
     let kinds = [Kind::Full, Kind::Partial];
-    let key = Key::new(b"a").ok_or("no key")?;
-    let begun = begun_with(rt.alloc(), &TWO_SESSIONS)?;
-    let ran = run_in_view::<Brand, _, _>(
-        &rt,
-        rt.alloc(),
-        Opened::new(),
-        begun,
-        &kinds,
-        &key,
-        &Open,
-    )?;
+    let ran = run_sessions(&rt, rt.alloc(), &TWO_SESSIONS, &kinds, &Open)?;
     let told = ran.map(|(o, number)| (o.checkpoints, o.gathered, o.calls, o.images, number));
     assert_eq!(rt; told, Some((Progress::Done, Ok(()), 3, 2, Some(2))));
     Ok(())
@@ -391,24 +394,13 @@ const GATED: [&[Line]; 2] = [
 /// for it: it stands before the cut. No order of one thread passes this gate.
 #[test]
 fn sessions_at_a_gate(rt: HostRuntime) -> Result<(), Fail> {
-    let kinds = [Kind::Full];
-    let key = Key::new(b"a").ok_or("no key")?;
-    let begun = begun_with(rt.alloc(), &GATED)?;
     let gate = Passed {
         steps: AtomicU64::new(0),
         begins: AtomicU64::new(0),
         advances: AtomicU64::new(0),
         shut: AtomicU64::new(0),
     };
-    let ran = run_in_view::<Brand, _, _>(
-        &rt,
-        rt.alloc(),
-        Opened::new(),
-        begun,
-        &kinds,
-        &key,
-        &gate,
-    );
+    let ran = run_sessions(&rt, rt.alloc(), &GATED, &[Kind::Full], &gate);
     let shut = now(&gate.shut);
     drop(gate);
     let expected = Outcome {

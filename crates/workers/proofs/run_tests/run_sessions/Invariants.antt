@@ -1,5 +1,5 @@
 use Rattle.view.specs.Views.{name_of}
-use Rattle.workers.proofs.run_tests.sessions_beside_checkpoints.Given as goal
+use Rattle.workers.proofs.run_tests.run_sessions.Given as goal
 
 -- the view that is opened
 abbrev pub ghosts-run_in_view : goal.ghosts-run_in_view
