@@ -1,24 +1,17 @@
 -- Images of a log's checkpoints stay so as the log grows, and chains of them merge to its tables at their cuts.
-use Rattle.std.proofs.Common.{◌≡◌, ℕ, zero, suc, ◌-◌, ◌≤◌, ◌<◌, Bool, true, false, cond, ◌||◌, List, [], ◌∷◌, ◌++◌, length, take, drop, get_or, Option, Some, None, is_some, refl, sym, ap, ◌∙◌, subst, inl, inr, arith, true≢false}
-use Rattle.std.specs.Prelude.{slice_range}
+use Rattle.std.proofs.Common.{◌≡◌, ℕ, zero, suc, ◌-◌, ◌≤◌, ◌<◌, Bool, true, false, cond, List, [], ◌∷◌, ◌++◌, length, take, drop, get_or, refl, sym, ap, ◌∙◌, subst, inl, inr, arith}
 use Rattle.std.specs.List.{All, Contains}
 use Rattle.std.proofs.lemmas.Bool.{cases_lt}
 use Rattle.std.proofs.lemmas.List.Elements.{All-from_recursion, All-contains, recursion_from_All}
-use Rattle.procedure.specs.Bytes.{Bytes, Cell}
-use Rattle.procedure.specs.Table.{Table, change_at, changed_or, merged, no_table, value_at}
-use Rattle.procedure.specs.Procedures.{Instruction, Procedure}
-use Rattle.procedure.specs.Runs.{committed, whole}
-use Rattle.procedure.specs.Copies.{run}
-use Rattle.procedure.proofs.Base.{same_table, value_at-merged, value_at-no_table}
-use Rattle.procedure.proofs.Copies.{whole_is_run}
-use Rattle.commitlog.specs.Records.{Record, Token, Call}
-use Rattle.commitlog.specs.Histories.{IsCyclic, after, code_of, table_after}
-use Rattle.commitlog.specs.Cuts.{HasCut, IsFullImage, IsPartialImage, at_cut, before_resolve, cut, in_full, in_partial, resolves, writes, written, written_from}
+use Rattle.procedure.specs.Bytes.{Bytes}
+use Rattle.procedure.specs.Table.{Table, merged, value_at}
+use Rattle.procedure.specs.Procedures.{Procedure}
+use Rattle.commitlog.specs.Records.{Record}
+use Rattle.commitlog.specs.Histories.{IsCyclic, after}
+use Rattle.commitlog.specs.Cuts.{HasCut, at_cut, before_resolve, cut, in_full, in_partial, resolves, written, written_from}
 use Rattle.commitlog.specs.Laws.{KeepsCut}
 use Rattle.commitlog.proofs.Cuts.{keeps_cut}
-use Rattle.commitlog.proofs.Finished.{base_is_before}
-use Rattle.commitlog.proofs.Histories.{after-append}
-use Rattle.commitlog.proofs.Lists.{take_and_range}
+use Rattle.commitlog.proofs.CutTables.{full_is_cut, partial_is_cut}
 use Rattle.image.specs.Images.{Image, changes_of}
 use Rattle.image.specs.Merges as merges
 use Rattle.image.specs.Merges.{IsChain, AreChained, last_of, table_of}
@@ -104,85 +97,17 @@ pub all_taken-push : (c : List Procedure) (t : Table) (l : List Record) (is : Li
 all_taken-push c t l [] i x y = (y, tt)
 all_taken-push c t l (j ∷ is) i x y = (x.0, all_taken-push c t l is i x.1 y)
 
--- ---- what isn't written stays
-
-left_false : (a b : Bool) → (a || b) ≡ false → a ≡ false
-left_false true b e = e
-left_false false b e = refl
-
-right_false : (a b : Bool) → (a || b) ≡ false → b ≡ false
-right_false true b e = absurd (true≢false e)
-right_false false b e = e
-
-not_some : {X : Type 0} (o : Option X) → is_some o ≡ false → o ≡ None
-not_some None e = refl
-not_some (Some x) e = absurd (true≢false e)
-
-run_unwritten : (code : List Instruction) (args : List Bytes) (t : Table) (q : Bytes) → (run code args t).written q ≡ false → value_at (run code args t).table q ≡ value_at t q
-run_unwritten code args t q h =
-    let w = whole_is_run code args t in
-    let c = committed (whole code args t) in
-    let none : change_at c q ≡ None = not_some (change_at c q) (w.written q ∙ h) in
-    ap (λ (u : Table). value_at u q) (sym w.table) ∙ value_at-merged t c q ∙ ap (λ (o : Option Cell). changed_or o (value_at t q)) none
-
-record_unwritten : (c : List Procedure) (t : Table) (r : Record) (q : Bytes) → writes c t r q ≡ false → value_at (table_after c t r) q ≡ value_at t q
-record_unwritten c t (Token p n) q h = refl
-record_unwritten c t (Call s n p args o r) q h = run_unwritten (code_of c p) args t q h
-
-unwritten : (c : List Procedure) (t : Table) (l : List Record) (q : Bytes) → written_from c t l q ≡ false → value_at (after c t l) q ≡ value_at t q
-unfolding written_from after
-unwritten c t [] q h = refl
-unwritten c t (r ∷ l) q h =
-    unwritten c (table_after c t r) l q (right_false (writes c t r q) (written_from c (table_after c t r) l q) h)
-    ∙ record_unwritten c t r q (left_false (writes c t r q) (written_from c (table_after c t r) l q) h)
-
-unwritten_between :
-    (c : List Procedure) (t : Table) (l : List Record) (i j : ℕ) (q : Bytes) → i ≤ j → written c t l i j q ≡ false → value_at (after c t (take j l)) q ≡ value_at (after c t (take i l)) q
-unwritten_between c t l i j q le h =
-    ap (λ (k : List Record). value_at (after c t k) q) (sym (take_and_range l i j le))
-    ∙ ap (λ (u : Table). value_at u q) (after-append c t (take i l) (slice_range l i j))
-    ∙ unwritten c (after c t (take i l)) (slice_range l i j) q h
-
 -- ---- chains
 
-full_or_none : (x : Cell) → changed_or (in_full x) None ≡ x
-full_or_none None = refl
-full_or_none (Some v) = refl
-
 module _ (c : List Procedure) (t : Table) (l : List Record) where
-  -- a full image holds the table at its cut
-  full_is_cut : (i : Image) → IsFullImage c t l (plain i) → table_of i ≡ at_cut c t l i.number
-  full_is_cut i f =
-      same_table (table_of i) (at_cut c t l i.number) (λ q.
-      value_at-merged no_table (changes_of i) q
-      ∙ ap (changed_or (change_at (changes_of i) q)) (value_at-no_table q)
-      ∙ ap (λ (o : Option Cell). changed_or o None) (f.entries q)
-      ∙ full_or_none (value_at (at_cut c t l i.number) q))
-
   module _ (cyclic : IsCyclic l) where
-    -- and a partial one leads from the table at its base's cut to that at its own
-    partial_is_cut : (i : Image) → IsPartialImage c t l (plain i) → merged (at_cut c t l i.base) (changes_of i) ≡ at_cut c t l i.number
-    partial_is_cut i f =
-        same_table (merged (at_cut c t l i.base) (changes_of i)) (at_cut c t l i.number) (λ q.
-        value_at-merged (at_cut c t l i.base) (changes_of i) q
-        ∙ ap (λ (o : Option Cell). changed_or o (value_at (at_cut c t l i.base) q)) (f.entries q)
-        ∙ by_written q (written c t l (cut l i.base) (cut l i.number) q) refl)
-      where
-        before : cut l i.base ≤ cut l i.number
-        before = subst (λ b. cut l b ≤ cut l i.number) (sym f.base) (base_is_before l cyclic i.number)
-
-        by_written : (q : Bytes) (w : Bool) → written c t l (cut l i.base) (cut l i.number) q ≡ w →
-            changed_or (in_partial w (value_at (at_cut c t l i.number) q)) (value_at (at_cut c t l i.base) q) ≡ value_at (at_cut c t l i.number) q
-        by_written q true e = refl
-        by_written q false e = sym (unwritten_between c t l (cut l i.base) (cut l i.number) q before e)
-
     -- partial images that stand on the cut of checkpoint n
     partials_are_cuts : (u : Table) (n : ℕ) (ps : List Image) → u ≡ at_cut c t l n → AreChained n ps → AllTaken c t l ps → merges.table_with_images u ps ≡ at_cut c t l (number_of_last n ps)
     partials_are_cuts u n [] e stand taken = e
     partials_are_cuts u n (p ∷ ps) e stand taken =
         let partial = subst (λ (k : Kind). IsOfKind k c t l (plain p)) stand.0 taken.0.cut in
         let next : merged u (changes_of p) ≡ at_cut c t l p.number =
-        ap (λ (x : Table). merged x (changes_of p)) (e ∙ ap (at_cut c t l) (sym stand.1)) ∙ partial_is_cut p partial in
+        ap (λ (x : Table). merged x (changes_of p)) (e ∙ ap (at_cut c t l) (sym stand.1)) ∙ partial_is_cut c t l (plain p) cyclic partial in
         partials_are_cuts (merged u (changes_of p)) p.number ps next stand.2 taken.1
 
     pub opening_chain : (ps : List Image) → AllTaken c t l ps → AreChained 0 ps → merges.table_with_images t ps ≡ at_cut c t l (number_of_last 0 ps)
@@ -195,7 +120,7 @@ module _ (c : List Procedure) (t : Table) (l : List Record) where
 
     pub chain : (i : Image) (ps : List Image) → IsTaken c t l i → AllTaken c t l ps → IsChain i ps → merges.table_with_images (table_of i) ps ≡ at_cut c t l (last_of i ps).number
     chain i ps taken all stand =
-        partials_are_cuts (table_of i) i.number ps (full_is_cut i (subst (λ (k : Kind). IsOfKind k c t l (plain i)) stand.full_first taken.cut)) stand.partials all
+        partials_are_cuts (table_of i) i.number ps (full_is_cut c t l (plain i) (subst (λ (k : Kind). IsOfKind k c t l (plain i)) stand.full_first taken.cut)) stand.partials all
         ∙ ap (at_cut c t l) (last_is i ps)
 
     -- chains of images that were all taken

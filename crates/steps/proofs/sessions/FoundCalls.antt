@@ -1,5 +1,5 @@
 -- The call that a core looks up in its places, and whether it may be answered.
-use Rattle.std.proofs.Common.{◌≡◌, ℕ, Bool, true, List, Option, Some, None, refl, slice_index_or, sym, ap, ◌∙◌}
+use Rattle.std.proofs.Common.{◌≡◌, ℕ, Bool, true, List, Option, Some, None, slice_index_or, sym, ap, ◌∙◌}
 use Rattle.std.specs.Prelude.{◌==◌, length}
 use Rattle.commitlog.specs.declared.limits.TheConstants.{LOG_RECORDS}
 use Rattle.steps.specs.inside.CoreFields.{IsCore, call_at, view_of}

@@ -1,7 +1,6 @@
-use Rattle.std.proofs.Common.{rules, ◌≡◌, Some, None, inl, inr, refl, sym, ap, ◌∙◌, subst, length}
+use Rattle.std.proofs.Common.{rules, Some, None, inl, inr, refl, sym, ap, ◌∙◌, subst, length}
 use Rattle.steps.specs.CoreViews.{CoreView}
 use Rattle.steps.specs.Refusals.{Answers}
-use Rattle.steps.specs.inside.CoreFields.{call_at}
 use Rattle.steps.specs.declared.errors.FinishError.TheVariants as refused
 use Rattle.steps.proofs.sessions.CallProgress.{outcome_is, replies_are}
 use Rattle.steps.proofs.sessions.FoundCalls.{absent_refusal, found_at, found_refusal}

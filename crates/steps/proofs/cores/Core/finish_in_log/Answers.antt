@@ -5,7 +5,6 @@ use Rattle.procedure.specs.Bytes.{Bytes}
 use Rattle.procedure.specs.Runs.{is_nil}
 use Rattle.procedure.specs.declared.outcomes.TheConstants.{COMMITTED}
 use Rattle.commitlog.specs.Records.{Record, Call}
-use Rattle.commitlog.specs.declared.limits.TheConstants.{LOG_RECORDS}
 use Rattle.locktable.specs.Locks.{without_locks}
 use Rattle.record_store.specs.ChangedSets.{KeySet, has}
 use Rattle.steps.specs.inside.CoreFields.{call_at}
@@ -13,7 +12,6 @@ use Rattle.steps.specs.CoreViews.{CoreView}
 use Rattle.steps.specs.inside.RecordEdits.{first_noted, noted_of}
 use Rattle.steps.specs.Refusals.{Answers}
 use Rattle.steps.specs.declared.calls.OpenCall.{OpenCall}
-use Rattle.steps.specs.declared.cores.Core.TheInside.{Inside}
 use Rattle.steps.specs.declared.errors.FinishError.TheVariants as refused
 use Rattle.steps.proofs.machine.OpenCalls.{same_Some}
 use Rattle.steps.proofs.sessions.AnsweredCall.{finish_core, finish_view, in_range}
