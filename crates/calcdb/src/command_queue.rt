@@ -101,7 +101,8 @@ impl<A: Allocator> CommandQueue<A> {
         }
     }
 
-    /// The first command, which is one of them no more; None where there is none.
+    /// The first command, which is one of them no more; None where there is none. Where room is given back
+    /// the allocator is asked for a smaller block; if it refuses, the queue keeps the one that it has.
     #[inline(always)]
     pub(crate) fn next(&mut self) -> Option<Command<Arguments<A>>>
         ensures first { self.old ≡ option_to_list result ++ self.new }

@@ -5,6 +5,8 @@
 ghost use Rattle.std.specs.Prelude.{◌≡◌, Some};
 ghost use Rattle.calcdb.specs.declared.faults.Fault.TheVariants as fault;
 ghost use Rattle.calcdb.specs.declared.faults.Reason.TheVariants as reason;
+ghost use Rattle.calcdb.specs.Refusing.{text_fault};
+ghost use Rattle.calcdb.specs.Reasons.{reason_text, read_reason, merge_reason, log_reason, recover_reason};
 
 pub(crate) mod failures;
 pub(crate) mod misreads;
@@ -44,8 +46,6 @@ pub(crate) enum Fault {
 }
 
 impl From<ScriptFault> for Fault {
-    ghost use Rattle.calcdb.specs.Refusing.{text_fault};
-
     ghost from_gives = { λ e f. f ≡ text_fault e };
 
     /// The fault of a text; out of memory for it is said in a line.
@@ -98,8 +98,6 @@ pub(crate) enum Reason {
 }
 
 impl fmt::Display for Reason {
-    ghost use Rattle.calcdb.specs.Reasons.{reason_text};
-
     ghost output = { λ r. Some (reason_text r) };
 
     fn fmt<W: fmt::Write>(&self, f: &mut fmt::Formatter<W>) -> fmt::Result {
@@ -128,8 +126,6 @@ impl fmt::Display for Reason {
 impl Error for Reason {}
 
 impl From<ReadError> for Reason {
-    ghost use Rattle.calcdb.specs.Reasons.{read_reason};
-
     ghost from_gives = { λ e r. r ≡ read_reason e };
 
     fn from(refused: ReadError) -> Self {
@@ -144,8 +140,6 @@ impl From<ReadError> for Reason {
 }
 
 impl From<MergeError> for Reason {
-    ghost use Rattle.calcdb.specs.Reasons.{merge_reason};
-
     ghost from_gives = { λ e r. r ≡ merge_reason e };
 
     fn from(refused: MergeError) -> Self {
@@ -160,8 +154,6 @@ impl From<MergeError> for Reason {
 }
 
 impl From<LogError> for Reason {
-    ghost use Rattle.calcdb.specs.Reasons.{log_reason};
-
     ghost from_gives = { λ e r. r ≡ log_reason e };
 
     fn from(refused: LogError) -> Self {
@@ -174,8 +166,6 @@ impl From<LogError> for Reason {
 }
 
 impl From<RecoverError> for Reason {
-    ghost use Rattle.calcdb.specs.Reasons.{recover_reason};
-
     ghost from_gives = { λ e r. r ≡ recover_reason e };
 
     fn from(refused: RecoverError) -> Self {

@@ -3,6 +3,7 @@
 ghost use Rattle.std.specs.Prelude.{◌≡◌, ◌≢◌, ◌≤◌, ◌<◌, ◌↔◌, [], ◌∷◌, ◌++◌, Err, IsOk, IsSome, IsTrue, OnErr, OnOk, codes, length, option_copied, slice_get, Some};
 ghost use Rattle.commitlog.specs.declared.limits.TheConstants.{LOG_RECORDS};
 ghost use Rattle.commitlog.specs.declared.logs.PushError.TheVariants as refused;
+ghost use Rattle.commitlog.specs.Logs.{push_error_text};
 
 use crate::limits::LOG_RECORDS;
 use crate::records::Record;
@@ -21,8 +22,6 @@ pub enum PushError {
 }
 
 impl fmt::Display for PushError {
-    ghost use Rattle.commitlog.specs.Logs.{push_error_text};
-
     ghost output = { λ e. Some (push_error_text e) };
 
     fn fmt<W: fmt::Write>(&self, f: &mut fmt::Formatter<W>) -> fmt::Result {

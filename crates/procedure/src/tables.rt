@@ -99,7 +99,8 @@ impl<V: Drop, A: Allocator> KeyMap<V, A> {
         Ok(before)
     }
 
-    /// What the key held goes back to the caller. It takes no memory.
+    /// What the key held goes back to the caller. Where room is given back the allocator is asked for a
+    /// smaller block; if it refuses, the map keeps the one that it has.
     pub fn remove(&mut self, key: &Key) -> Option<V>
         ensures value { result ≡ map.get self.old key.now }
         ensures removed { self.new ≡ map.remove self.old key.now }

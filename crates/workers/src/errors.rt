@@ -1,6 +1,13 @@
 //! Why calls, checkpoints and gatherings are refused.
 
-ghost use Rattle.std.specs.Prelude.{◌≡◌};
+ghost use Rattle.std.specs.Prelude.{◌≡◌, Some};
+ghost use Rattle.workers.specs.Shares.{stops_session};
+ghost use Rattle.workers.specs.declared.errors.CallRefusal.TheVariants as call_refused;
+ghost use Rattle.workers.specs.Texts.{call_refusal_text, checkpoint_refusal_text, stream_error_text, gather_error_text};
+ghost use Rattle.workers.specs.declared.errors.CheckpointRefusal.TheVariants as checkpoint_refused;
+ghost use Rattle.workers.specs.Refusals.{stream_error_of};
+ghost use Rattle.workers.specs.declared.errors.StreamError.TheVariants as stream_refused;
+ghost use Rattle.workers.specs.declared.errors.GatherError.TheVariants as gather_refused;
 
 use procedure::NoMemory;
 use std::error::Error;
@@ -18,8 +25,6 @@ pub enum CallRefusal {
 }
 
 impl CallRefusal {
-    ghost use Rattle.workers.specs.Shares.{stops_session};
-
     /// Whether the session can't go on: the table or the log is full, or memory is wanting.
     pub fn stops(self) -> bool
         ensures { result ≡ stops_session self }
@@ -37,9 +42,7 @@ impl CallRefusal {
 }
 
 impl From<BeginError> for CallRefusal {
-    ghost use Rattle.workers.specs.declared.errors.CallRefusal.TheVariants as refused;
-
-    ghost from_gives = { λ e r. r ≡ refused.Begin e };
+    ghost from_gives = { λ e r. r ≡ call_refused.Begin e };
 
     fn from(refusal: BeginError) -> Self {
         CallRefusal::Begin(refusal)
@@ -47,9 +50,7 @@ impl From<BeginError> for CallRefusal {
 }
 
 impl From<StepError> for CallRefusal {
-    ghost use Rattle.workers.specs.declared.errors.CallRefusal.TheVariants as refused;
-
-    ghost from_gives = { λ e r. r ≡ refused.Step e };
+    ghost from_gives = { λ e r. r ≡ call_refused.Step e };
 
     fn from(refusal: StepError) -> Self {
         CallRefusal::Step(refusal)
@@ -57,9 +58,7 @@ impl From<StepError> for CallRefusal {
 }
 
 impl From<FinishError> for CallRefusal {
-    ghost use Rattle.workers.specs.declared.errors.CallRefusal.TheVariants as refused;
-
-    ghost from_gives = { λ e r. r ≡ refused.Finish e };
+    ghost from_gives = { λ e r. r ≡ call_refused.Finish e };
 
     fn from(refusal: FinishError) -> Self {
         CallRefusal::Finish(refusal)
@@ -67,9 +66,6 @@ impl From<FinishError> for CallRefusal {
 }
 
 impl fmt::Display for CallRefusal {
-    ghost use Rattle.std.specs.Prelude.{Some};
-    ghost use Rattle.workers.specs.Texts.{call_refusal_text};
-
     ghost output = { λ e. Some (call_refusal_text e) };
 
     fn fmt<W: fmt::Write>(&self, f: &mut fmt::Formatter<W>) -> fmt::Result {
@@ -95,9 +91,7 @@ pub enum CheckpointRefusal {
 }
 
 impl From<StartError> for CheckpointRefusal {
-    ghost use Rattle.workers.specs.declared.errors.CheckpointRefusal.TheVariants as refused;
-
-    ghost from_gives = { λ e r. r ≡ refused.Start e };
+    ghost from_gives = { λ e r. r ≡ checkpoint_refused.Start e };
 
     fn from(refusal: StartError) -> Self {
         CheckpointRefusal::Start(refusal)
@@ -105,9 +99,7 @@ impl From<StartError> for CheckpointRefusal {
 }
 
 impl From<AdvanceError> for CheckpointRefusal {
-    ghost use Rattle.workers.specs.declared.errors.CheckpointRefusal.TheVariants as refused;
-
-    ghost from_gives = { λ e r. r ≡ refused.Advance e };
+    ghost from_gives = { λ e r. r ≡ checkpoint_refused.Advance e };
 
     fn from(refusal: AdvanceError) -> Self {
         CheckpointRefusal::Advance(refusal)
@@ -115,9 +107,7 @@ impl From<AdvanceError> for CheckpointRefusal {
 }
 
 impl From<CaptureError> for CheckpointRefusal {
-    ghost use Rattle.workers.specs.declared.errors.CheckpointRefusal.TheVariants as refused;
-
-    ghost from_gives = { λ e r. r ≡ refused.Capture e };
+    ghost from_gives = { λ e r. r ≡ checkpoint_refused.Capture e };
 
     fn from(refusal: CaptureError) -> Self {
         CheckpointRefusal::Capture(refusal)
@@ -125,9 +115,7 @@ impl From<CaptureError> for CheckpointRefusal {
 }
 
 impl From<CaptureToError> for CheckpointRefusal {
-    ghost use Rattle.workers.specs.declared.errors.CheckpointRefusal.TheVariants as refused;
-
-    ghost from_gives = { λ e r. r ≡ refused.CaptureTo e };
+    ghost from_gives = { λ e r. r ≡ checkpoint_refused.CaptureTo e };
 
     fn from(refusal: CaptureToError) -> Self {
         CheckpointRefusal::CaptureTo(refusal)
@@ -135,9 +123,7 @@ impl From<CaptureToError> for CheckpointRefusal {
 }
 
 impl From<NoMemory> for CheckpointRefusal {
-    ghost use Rattle.workers.specs.declared.errors.CheckpointRefusal.TheVariants as refused;
-
-    ghost from_gives = { λ _ r. r ≡ refused.NoMemory };
+    ghost from_gives = { λ _ r. r ≡ checkpoint_refused.NoMemory };
 
     fn from(_refused: NoMemory) -> Self {
         CheckpointRefusal::NoMemory
@@ -145,9 +131,6 @@ impl From<NoMemory> for CheckpointRefusal {
 }
 
 impl fmt::Display for CheckpointRefusal {
-    ghost use Rattle.std.specs.Prelude.{Some};
-    ghost use Rattle.workers.specs.Texts.{checkpoint_refusal_text};
-
     ghost output = { λ e. Some (checkpoint_refusal_text e) };
 
     fn fmt<W: fmt::Write>(&self, f: &mut fmt::Formatter<W>) -> fmt::Result {
@@ -179,14 +162,10 @@ pub enum StreamError {
 }
 
 impl StreamError {
-    ghost use Rattle.std.specs.Prelude.{◌≡◌};
-    ghost use Rattle.workers.specs.Refusals.{stream_error_of};
-    ghost use Rattle.workers.specs.declared.errors.StreamError.TheVariants as refused;
-
     /// That the core refused. Out of memory is one thing, wherever the core says it.
     pub fn of_refusal(refusal: CheckpointRefusal) -> Self
         ensures value { result ≡ stream_error_of refusal }
-        ensures started { result ≡ refused.NoRing → ⊥ }
+        ensures started { result ≡ stream_refused.NoRing → ⊥ }
     {
         match refusal {
             CheckpointRefusal::NoMemory
@@ -200,9 +179,6 @@ impl StreamError {
 }
 
 impl fmt::Display for StreamError {
-    ghost use Rattle.std.specs.Prelude.{Some};
-    ghost use Rattle.workers.specs.Texts.{stream_error_text};
-
     ghost output = { λ e. Some (stream_error_text e) };
 
     fn fmt<W: fmt::Write>(&self, f: &mut fmt::Formatter<W>) -> fmt::Result {
@@ -232,9 +208,7 @@ pub enum GatherError {
 }
 
 impl From<NoMemory> for GatherError {
-    ghost use Rattle.workers.specs.declared.errors.GatherError.TheVariants as refused;
-
-    ghost from_gives = { λ _ e. e ≡ refused.NoMemory };
+    ghost from_gives = { λ _ e. e ≡ gather_refused.NoMemory };
 
     fn from(_refused: NoMemory) -> Self {
         GatherError::NoMemory
@@ -242,9 +216,6 @@ impl From<NoMemory> for GatherError {
 }
 
 impl fmt::Display for GatherError {
-    ghost use Rattle.std.specs.Prelude.{Some};
-    ghost use Rattle.workers.specs.Texts.{gather_error_text};
-
     ghost output = { λ e. Some (gather_error_text e) };
 
     fn fmt<W: fmt::Write>(&self, f: &mut fmt::Formatter<W>) -> fmt::Result {
