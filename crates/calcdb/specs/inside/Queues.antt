@@ -1,5 +1,5 @@
 -- Commands whose calls stand apart from them.
-use Rattle.std.specs.Prelude.{◌≡◌, ℕ, ◌+◌, List, [], ◌∷◌, length, Option, Some, None}
+use Rattle.std.specs.Prelude.{ℕ, ◌+◌, List, [], ◌∷◌, Option, Some, None}
 use Rattle.procedure.specs.Bytes.{Bytes}
 use Rattle.calcdb.specs.declared.command_queue.Head.{Head}
 use Rattle.calcdb.specs.declared.command_queue.Head.TheVariants as head

@@ -1,6 +1,6 @@
 use Rattle.std.proofs.Common.{◌≡◌, ◌++◌, Option, Some, None, OnOk, sym, ap, ◌∙◌, subst, slice_get}
 use Rattle.std.proofs.lemmas.List.{append-nil}
-use Rattle.procedure.specs.Bytes.{Bytes, Cell}
+use Rattle.procedure.specs.Bytes.{Bytes}
 use Rattle.commitlog.specs.Records.{Record, Token, call_of, record_of}
 use Rattle.procedure.proofs.Slices.{copied_get}
 use Rattle.calcdb.specs.Output.{answer_text}
