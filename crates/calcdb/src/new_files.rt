@@ -18,8 +18,8 @@ use std::rt::Files;
 /// writes into the folder, or was killed there.
 const NAMES: u32 = 100;
 
-/// Bytes that are gathered before a file gets them.
-const GATHERED: usize = 65_536;
+/// Bytes that are gathered before a file or standard output gets them.
+pub(crate) const GATHERED: usize = 65_536;
 
 /// What has the name of a file that is to be made.
 #[derive(Drop)]

@@ -6,6 +6,7 @@ ghost use Rattle.calcdb.specs.Failures.{status_after};
 use crate::command_line::job;
 use crate::faults::failures::Failure;
 use crate::files::flush;
+use crate::new_files::GATHERED;
 use crate::other_images::OtherImages;
 use crate::progress::{Ticker, told_where};
 use crate::tasks::do_task;
@@ -147,7 +148,7 @@ where
     for word in env::args(env)? {
         words.push(word)?;
     }
-    let mut out = BufWriter::new(alloc, out)?;
+    let mut out = BufWriter::with_capacity(alloc, GATHERED, out)?;
     let words = words.as_slice();
     Ok(perform(alloc, threads, clock, rt, words, stdin, &mut out, err))
 }

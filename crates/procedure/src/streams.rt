@@ -101,7 +101,7 @@ pub fn write_out<W: Write>(writer: &mut W, bytes: &[u8]) -> Result<(), WriteFaul
 }
 
 /// What one read takes at most.
-const CHUNK: usize = 4096;
+const CHUNK: usize = 65_536;
 
 /// Reads to the end of the reader, or until the text has more than `most` bytes. The first read that
 /// fails ends it.

@@ -1,5 +1,5 @@
 -- The winner at node 1 is the least of all.
-use Rattle.std.proofs.Common.{◌≡◌, ◌≢◌, ℕ, zero, suc, ◌+◌, ◌-◌, ◌/◌, ◌<◌, ◌≤◌, Bool, true, false, cond, ◌⊎◌, inl, inr, List, [], ◌∷◌, length, get_or, Option, Some, None, refl, sym, ap, ◌∙◌, subst, arith, slice_set, length-set, get_or-set_same, get_or-set_other, option_map, drop, ◌++◌, replicate, length-append, length-drop}
+use Rattle.std.proofs.Common.{◌≡◌, ◌≢◌, ℕ, zero, suc, ◌+◌, ◌-◌, ◌/◌, ◌<◌, ◌≤◌, Bool, true, false, cond, ◌⊎◌, inl, inr, List, [], ◌∷◌, length, get_or, Option, Some, None, refl, sym, ap, ◌∙◌, subst, arith, slice_set, length-set, get_or-set_same, get_or-set_other, map, option_map, drop, ◌++◌, replicate, length-append, length-drop, vec_capacity}
 use Rattle.std.proofs.Math.ListN.{get_or-map}
 use Rattle.std.proofs.Math.Seq.{get_or-append_right}
 use Rattle.std.proofs.lemmas.List.{get_or-drop, get_or_past, get_or-replicate, get_or_append_left, length-replicate, length-map, same_lists, get_or_default}
@@ -188,15 +188,23 @@ module _ (nodes : Nodes) (slots : ℕ) (won : IsWonFrom nodes slots 1) where
 same_default : {X : Type 0} (xs ys : List (Option X)) (n : ℕ) (x : Option X) → n < length xs → n < length ys → get_or xs n None ≡ get_or ys n None → get_or xs n x ≡ get_or ys n x
 same_default xs ys n x one other same = get_or_default xs n x None one ∙ same ∙ get_or_default ys n None x other
 
-past_replicate : (n i : ℕ) → node_at (replicate n None) i ≡ None
-past_replicate n i =
+past_replicate : {X : Type 0} (n i : ℕ) → get_or {A = Option X} (replicate n None) i None ≡ None
+past_replicate {X} n i =
     elim (in_order i n) [
       | inl within ↦ get_or-replicate n i None None within
-      | inr past ↦ get_or_past (replicate n None) i None (omega (arith, length-replicate {A = Option Candidate} n None))
+      | inr past ↦ get_or_past (replicate n None) i None (omega (arith, length-replicate {A = Option X} n None))
     ]
 
-past_long : (old : Nodes) (more i : ℕ) → length old ≤ i → node_at (old ++ replicate more None) i ≡ None
+past_long : {X : Type 0} (old : List (Option X)) (more i : ℕ) → length old ≤ i → get_or (old ++ replicate more None) i None ≡ None
 past_long old more i past = get_or-append_right old (replicate more None) i None past ∙ past_replicate more (i - length old)
+
+-- what stands behind a list is like nothing
+lengthened : {X : Type 0} (old : List (Option X)) (more i : ℕ) → get_or (old ++ replicate more None) i None ≡ get_or old i None
+lengthened old more i =
+    elim (in_order i (length old)) [
+      | inl within ↦ get_or_append_left old _ None i within
+      | inr past ↦ past_long old more i past ∙ sym (get_or_past old i None past)
+    ]
 
 pub enlarged : (old long moved new : Nodes) (slots wanted : ℕ) → length old ≡ slots + slots → slots + slots ≤ wanted → long ≡ old ++ replicate (wanted + wanted - length old) None →
     IsMoved long moved slots wanted → SameFrom moved new wanted → IsEnlarged old new slots wanted
@@ -238,17 +246,34 @@ present_within nodes n c is =
 module _ {A : Type 0} where
   -- what a slot offers is the key at its node
   offer_at_node : (d : Inside A) (slot : ℕ) → offer_at (offers_of d) slot ≡ key_in (node_at d.nodes.items (d.slots + slot))
-  offer_at_node d slot = get_or-map (λ (x : Option Candidate). option_map (λ c. c.key) x) (drop d.slots d.nodes.items) slot None ∙ ap key_in (get_or-drop d.slots d.nodes.items slot None)
+  offer_at_node d slot =
+      lengthened (map key_in (drop d.slots d.nodes.items)) (d.places - d.slots) slot ∙ get_or-map key_in (drop d.slots d.nodes.items) slot None ∙ ap key_in (get_or-drop d.slots d.nodes.items slot None)
 
-  pub length-offers : (d : Inside A) → IsPlayed d → length (offers_of d) ≡ d.slots
-  length-offers d played = length-map (drop d.slots d.nodes.items) _ ∙ length-drop d.slots d.nodes.items ∙ omega (arith, played.nodes)
+  within_places : (d : Inside A) → IsPlayed d → d.slots ≤ d.places
+  within_places d played = elim played.laid_out [ inl all ↦ omega (arith, all) | inr half ↦ omega (arith, half) ]
+
+  -- where a place has no nodes, at most half of them have
+  pub half_laid : (d : Inside A) → IsPlayed d → d.slots < d.places → d.slots + d.slots ≤ d.places
+  half_laid d played less = elim played.laid_out [ inl all ↦ absurd (omega (arith, all, less)) | inr half ↦ half ]
+
+  pub length-offers : (d : Inside A) → IsPlayed d → length (offers_of d) ≡ d.places
+  length-offers d played =
+      length-append (map key_in (drop d.slots d.nodes.items)) _
+      ∙ omega (
+        arith,
+        length-map (drop d.slots d.nodes.items) key_in,
+        length-drop d.slots d.nodes.items,
+        length-replicate {A = Option Bytes} (d.places - d.slots) None,
+        played.nodes,
+        within_places d played,
+      )
 
   pub least_some : (d : Inside A) → IsPlayed d → (best : Candidate) → node_at d.nodes.items 1 ≡ Some best → IsLeast (offer_at (offers_of d)) best.slot
   least_some d played best is =
       let nodes : Nodes = d.nodes.items in
       let within : 1 < length nodes = present_within nodes 1 best is in
       let own : (best.slot < d.slots) × (node_at nodes (d.slots + best.slot) ≡ Some best) =
-      from_slot nodes d.slots played.won played.places d.slots 1 best (omega arith) (omega arith) (omega (arith, played.nodes)) is in
+      from_slot nodes d.slots played.won played.own d.slots 1 best (omega arith) (omega arith) (omega (arith, played.nodes)) is in
       record {
         key = best.key;
         offered = offer_at_node d best.slot ∙ ap key_in own.1;
@@ -273,40 +298,70 @@ module _ {A : Type 0} where
           let won = root_beats d.nodes.items d.slots played.won (d.slots + slot + 1) (d.slots + slot) (omega arith) (omega (arith, played.nodes)) (omega (arith, played.nodes)) b e in
           absurd (cc)
 
+  -- both offer the same, place by place
+  same_offers : (d new : Inside A) → IsPlayed d → IsPlayed new → new.places ≡ d.places → ((slot : ℕ) → offer_at (offers_of new) slot ≡ offer_at (offers_of d) slot) → offers_of new ≡ offers_of d
+  same_offers d new played again places same =
+      same_lists _ _
+      (length-offers new again ∙ places ∙ sym (length-offers d played))
+      (λ n x inside. same_default (offers_of new) (offers_of d) n x inside (omega (arith, length-offers d played, length-offers new again, places)) (same n))
+
   -- a slot's own node has another candidate
-  pub put_played : (d : Inside A) (new : Inside A) (slot : ℕ) (k : Option Bytes) → IsPlayed d → slot < d.slots → new.slots ≡ d.slots →
+  pub put_played : (d : Inside A) (new : Inside A) (slot : ℕ) (k : Option Bytes) → IsPlayed d → slot < d.slots → new.slots ≡ d.slots → new.places ≡ d.places → vec_capacity new.nodes ≡ vec_capacity d.nodes →
       IsPut d.nodes.items new.nodes.items d.slots slot (candidate_of k slot) → IsWonFrom new.nodes.items d.slots 1 → IsPlayed new
-  put_played d new slot k played within slots put won =
+  put_played d new slot k played within slots places room put won =
       record {
         nodes = put.len ∙ played.nodes ∙ ap (λ (n : ℕ). n + n) (sym slots);
-        places = λ other c. rw slots (λ is. elim (cases_eq other slot) [
+        own = λ other c. rw slots (λ is. elim (cases_eq other slot) [
           | inl same ↦ candidate_slot k slot c (sym put.put ∙ ap (λ (n : ℕ). node_at new.nodes.items (d.slots + n)) (sym same) ∙ is) ∙ sym same
-          | inr differs ↦ played.places other c (sym (put.others (d.slots + other) (omega arith) (omega arith)) ∙ is)
+          | inr differs ↦ played.own other c (sym (put.others (d.slots + other) (omega arith) (omega arith)) ∙ is)
         ]);
         won = rw slots won;
+        laid_out = rw (slots, places) played.laid_out;
+        room = rw (places, room) played.room;
       }
 
-  pub put_offers : (d : Inside A) (new : Inside A) (slot : ℕ) (k : Option Bytes) → IsPlayed d → IsPlayed new → slot < d.slots → new.slots ≡ d.slots →
+  pub put_offers : (d : Inside A) (new : Inside A) (slot : ℕ) (k : Option Bytes) → IsPlayed d → IsPlayed new → slot < d.slots → new.slots ≡ d.slots → new.places ≡ d.places →
       IsPut d.nodes.items new.nodes.items d.slots slot (candidate_of k slot) → offers_of new ≡ slice_set (offers_of d) slot k
-  put_offers d new slot k played again within slots put =
+  put_offers d new slot k played again within slots places put =
       same_lists _ _
-      (length-offers new again ∙ slots ∙ sym (length-set (offers_of d) slot k ∙ length-offers d played))
-      (λ n x inside. same_default (offers_of new) (slice_set (offers_of d) slot k) n x inside (omega (arith, length-set (offers_of d) slot k, length-offers d played, length-offers new again))
+      (length-offers new again ∙ places ∙ sym (length-set (offers_of d) slot k ∙ length-offers d played))
+      (λ n x inside. same_default (offers_of new) (slice_set (offers_of d) slot k) n x inside (omega (arith, length-set (offers_of d) slot k, length-offers d played, length-offers new again, places))
       (offer_at_node new n ∙ ap (λ (m : ℕ). key_in (node_at new.nodes.items (m + n))) slots ∙ elim (cases_eq n slot) [
-        | inl same ↦ rw same (ap key_in put.put ∙ key_in-candidate k slot ∙ sym (get_or-set_same (offers_of d) slot k None (omega (arith, length-offers d played))))
+        | inl same ↦ rw same (ap key_in put.put ∙ key_in-candidate k slot ∙ sym (get_or-set_same (offers_of d) slot k None (omega (arith, length-offers d played, within_places d played))))
         | inr differs ↦ ap key_in (put.others (d.slots + n) (omega arith) (omega arith)) ∙ sym (offer_at_node d n) ∙ sym (get_or-set_other (offers_of d) slot n k None differs)
       ]))
 
-  pub enlarged_played : (d new : Inside A) → IsPlayed d → IsEnlarged d.nodes.items new.nodes.items d.slots new.slots → IsWonFrom new.nodes.items new.slots 1 → IsPlayed new
-  enlarged_played d new played more won =
+  -- each place has its nodes from now on
+  pub enlarged_played : (d new : Inside A) → IsPlayed d → IsEnlarged d.nodes.items new.nodes.items d.slots new.slots → IsWonFrom new.nodes.items new.slots 1 → new.slots ≡ new.places →
+      new.places ≡ d.places → vec_capacity new.nodes ≡ vec_capacity d.nodes → IsPlayed new
+  enlarged_played d new played more won all places room =
       record {
         nodes = more.len;
-        places = λ slot c is. played.places slot c (sym (more.same slot) ∙ is);
+        own = λ slot c is. played.own slot c (sym (more.same slot) ∙ is);
         won = won;
+        laid_out = inl all;
+        room = rw (places, room) played.room;
       }
 
-  pub enlarged_offers : (d new : Inside A) → IsEnlarged d.nodes.items new.nodes.items d.slots new.slots → (slot : ℕ) → offer_at (offers_of new) slot ≡ offer_at (offers_of d) slot
-  enlarged_offers d new more slot = offer_at_node new slot ∙ ap key_in (more.same slot) ∙ sym (offer_at_node d slot)
+  pub enlarged_offers : (d new : Inside A) → IsPlayed d → IsPlayed new → IsEnlarged d.nodes.items new.nodes.items d.slots new.slots → new.places ≡ d.places → offers_of new ≡ offers_of d
+  enlarged_offers d new played again more places =
+      same_offers d new played again places (λ slot. offer_at_node new slot ∙ ap key_in (more.same slot) ∙ sym (offer_at_node d slot))
+
+  -- a slot has a node of its own, and all offer what they did
+  pub record HasNode (d new : Inside A) (slot : ℕ) : Type 0 where
+    pub played : IsPlayed new
+    pub offers : offers_of new ≡ offers_of d
+    pub within : slot < new.slots
+
+  pub all_laid_out : (d new : Inside A) (slot : ℕ) → IsPlayed d → IsEnlarged d.nodes.items new.nodes.items d.slots new.slots → IsWonFrom new.nodes.items new.slots 1 → new.slots ≡ new.places →
+      new.places ≡ d.places → vec_capacity new.nodes ≡ vec_capacity d.nodes → slot < new.slots → HasNode d new slot
+  all_laid_out d new slot played more won all places room within =
+      let again = enlarged_played d new played more won all places room in
+      record { played = again; offers = enlarged_offers d new played again more places; within = within }
+
+  -- the same nodes
+  pub roomy_offers : (d new : Inside A) → new.nodes.items ≡ d.nodes.items → new.slots ≡ d.slots → (slot : ℕ) → offer_at (offers_of new) slot ≡ offer_at (offers_of d) slot
+  roomy_offers d new nodes slots slot = offer_at_node new slot ∙ rw (nodes, slots) (sym (offer_at_node d slot))
 
 -- where no slot had a place, no key is offered: nothing wins anywhere
 module _ (old new : Nodes) (slots wanted : ℕ) (none : slots ≤ 0) (len : length old ≡ slots + slots) (blank : new ≡ old ++ replicate (wanted + wanted - length old) None) where

@@ -1,5 +1,5 @@
 -- The keys that dead records offer for reclaim, slot by slot, and which of them is the least.
-use Rattle.std.specs.Prelude.{◌≡◌, ℕ, ◌+◌, ◌<◌, ◌≤◌, ◌≢◌, Bool, false, if◌then◌else◌, List, map, length, drop, Option, Some, None, slice_index_or}
+use Rattle.std.specs.Prelude.{◌≡◌, ℕ, ◌+◌, ◌-◌, ◌<◌, ◌≤◌, ◌≢◌, ◌⊎◌, Bool, false, if◌then◌else◌, List, ◌++◌, map, length, drop, replicate, Option, Some, None, slice_index_or, vec_capacity}
 use Rattle.std.specs.Option.{option_map}
 use Rattle.std.specs.Ordering.{nat_cmp, is_lt}
 use Rattle.std.specs.Cmp.Lexicographic.{slice_cmp}
@@ -86,11 +86,14 @@ pub record IsEnlarged (old new : Nodes) (slots wanted : ℕ) : Type 0 where
   pub len : length new ≡ wanted + wanted
   pub same : (slot : ℕ) → node_at new (wanted + slot) ≡ node_at old (slots + slot)
 
--- the last half of the nodes are the slots' own
+-- the last half of the nodes are the slots' own, and a place without nodes offers nothing
 abbrev pub offers_of : {A : Type 0} → Inside A → List (Option Bytes)
-offers_of d = map (option_map (λ c. c.key)) (drop d.slots d.nodes.items)
+offers_of d = map (option_map (λ c. c.key)) (drop d.slots d.nodes.items) ++ replicate (d.places - d.slots) None
 
+-- each place has its nodes, or at most half of them have, and there is memory for the nodes of all
 pub record IsPlayed {A : Type 0} (d : Inside A) : Type 0 where
   pub nodes : length d.nodes.items ≡ d.slots + d.slots
-  pub places : (slot : ℕ) (c : Candidate) → node_at d.nodes.items (d.slots + slot) ≡ Some c → c.slot ≡ slot
+  pub own : (slot : ℕ) (c : Candidate) → node_at d.nodes.items (d.slots + slot) ≡ Some c → c.slot ≡ slot
   pub won : IsWonFrom d.nodes.items d.slots 1
+  pub laid_out : (d.slots ≡ d.places) ⊎ (d.slots + d.slots ≤ d.places)
+  pub room : d.places + d.places ≤ vec_capacity d.nodes

@@ -1,10 +1,10 @@
 //! The least of the keys that dead records offer for reclaim.
 
-ghost use Rattle.std.specs.Prelude.{◌≡◌, ℕ, ◌+◌, ◌<◌, ◌≤◌, ◌↔◌, [], length, OnOk, OnErr, IfSome, IfNone, IsSome, IsTrue, IsOk, None, Some, max, slice_set, ◌++◌, replicate, ◌-◌, ◌^◌};
+ghost use Rattle.std.specs.Prelude.{◌≡◌, ℕ, ◌+◌, ◌<◌, ◌≤◌, ◌↔◌, [], length, OnOk, IfSome, IfNone, IsSome, IsTrue, IsOk, None, Some, max, slice_set, ◌++◌, replicate, ◌-◌, ◌^◌, vec_capacity};
 ghost use Rattle.record_store.specs.DeadKeys.{IsEnlarged, IsLeast, IsMoved, IsPut, IsWonBut, IsWonFrom, Refills, SameFrom, SameOffers, candidate_of, match_at, node_at, offer_at, winner};
 
 use procedure::{Key, NoMemory};
-use std::alloc::{AllocError, Allocator};
+use std::alloc::Allocator;
 use std::cmp;
 use std::marker::Model;
 
@@ -21,10 +21,16 @@ struct Candidate {
 /// It is a tournament: the second half of the nodes are the slots' own, and an inner node n is the
 /// winner of the nodes 2n and 2n + 1, so that node 1 is the least of all. A heap would need each
 /// slot's place in it, or keep entries that no longer hold.
+///
+/// The memory for the nodes is taken when a place is made, and first written when a slot without
+/// a node offers a key: a table in which no record dies doesn't touch it.
 #[derive(Drop)]
 pub struct DeadKeys<A: Allocator> {
     nodes: Vec<Option<Candidate>, A>,
+    // The slots that have nodes: all places that there are, or at most half of them.
     slots: usize,
+    // There is memory for the nodes of so many slots.
+    places: usize,
 }
 
 impl<A: Allocator> Model for DeadKeys<A> {
@@ -105,20 +111,16 @@ fn place_of(key: Option<Key>, slot: usize) -> Option<Candidate>
     }
 }
 
-/// Adds places that offer nothing, up to this many nodes.
-fn lengthen<A: Allocator>(
-    nodes: &mut Vec<Option<Candidate>, A>,
-    len: usize,
-) -> Result<(), AllocError>
-    requires { length nodes.old.items ≤ len }
-    ensures ok { OnOk result (nodes.new.items ≡ nodes.old.items ++ replicate (len - length nodes.old.items) None) }
-    ensures err { OnErr result (nodes.new.items ≡ nodes.old.items) }
+/// Adds nodes that offer nothing, up to this many. There is memory for them.
+fn lengthen<A: Allocator>(nodes: &mut Vec<Option<Candidate>, A>, len: usize)
+    requires more { length nodes.old.items ≤ len }
+    requires room { len ≤ vec_capacity nodes.old }
+    ensures items { nodes.new.items ≡ nodes.old.items ++ replicate (len - length nodes.old.items) None }
+    ensures memory { vec_capacity nodes.new ≡ vec_capacity nodes.old }
 {
-    nodes.reserve(len - nodes.len())?;
     while nodes.len() < len {
         nodes.push_reserved(None);
     }
-    Ok(())
 }
 
 /// Moves the places of slots from after node `from` to after node `to`, where there are at least
@@ -174,25 +176,20 @@ fn refill(nodes: &mut [Option<Candidate>], slots: usize, wanted: usize)
     play_all(nodes, wanted);
 }
 
-/// Makes places for more slots, at least twice as many.
-fn enlarge<A: Allocator>(
-    nodes: &mut Vec<Option<Candidate>, A>,
-    slots: usize,
-    wanted: usize,
-) -> Result<(), AllocError>
+/// Gives nodes to more slots, at least twice as many. There is memory for them.
+fn enlarge<A: Allocator>(nodes: &mut Vec<Option<Candidate>, A>, slots: usize, wanted: usize)
     requires nodes { length nodes.old.items ≡ slots + slots }
     requires more { slots + slots ≤ wanted }
-    requires fits { wanted + wanted < 2 ^ 64 }
-    ensures ok { OnOk result (IsEnlarged nodes.old.items nodes.new.items slots wanted) }
-    ensures won { OnOk result (IsWonFrom nodes.new.items wanted 1) }
-    ensures err { OnErr result (nodes.new.items ≡ nodes.old.items) }
+    requires room { wanted + wanted ≤ vec_capacity nodes.old }
+    ensures enlarged { IsEnlarged nodes.old.items nodes.new.items slots wanted }
+    ensures won { IsWonFrom nodes.new.items wanted 1 }
+    ensures memory { vec_capacity nodes.new ≡ vec_capacity nodes.old }
 {
-    lengthen(nodes, wanted + wanted)?;
-    // Where there was no place no key is offered yet, and nothing wins.
+    lengthen(nodes, wanted + wanted);
+    // Where no slot had a node no key is offered yet, and nothing wins.
     if slots > 0 {
         refill(nodes, slots, wanted);
     }
-    Ok(())
 }
 
 /// At least twice the places, so that a growth costs each slot a constant; None where there can't
@@ -215,6 +212,7 @@ impl<A: Allocator> DeadKeys<A> {
         DeadKeys {
             nodes: Vec::new(alloc),
             slots: 0,
+            places: 0,
         }
     }
 
@@ -229,20 +227,26 @@ impl<A: Allocator> DeadKeys<A> {
         ensures same { slot < length self.old → length self.new ≡ length self.old }
         ensures grown { length self.old ≤ slot → OnOk result (length self.new ≡ max (slot + 1) (length self.old + length self.old)) }
     {
-        if slot < self.slots {
+        if slot < self.places {
             return Ok(());
         }
-        let wanted = places_for(slot, self.slots).ok_or(NoMemory)?;
-        enlarge(&mut self.nodes, self.slots, wanted)?;
-        self.slots = wanted;
+        let wanted = places_for(slot, self.places).ok_or(NoMemory)?;
+        let nodes = self.nodes.len();
+        self.nodes.reserve(wanted + wanted - nodes)?;
+        self.places = wanted;
         Ok(())
     }
 
-    /// The slot offers this key from now on, or nothing.
+    /// The slot offers this key from now on, or nothing. The first key of a slot without a node takes
+    /// time in proportion to the places.
     pub fn set(&mut self, slot: usize, key: Option<Key>)
         requires { slot < length self.old }
         ensures { self.new ≡ slice_set self.old slot key }
     {
+        if self.slots <= slot {
+            enlarge(&mut self.nodes, self.slots, self.places);
+            self.slots = self.places;
+        }
         put_place(&mut self.nodes, self.slots, slot, key);
     }
 

@@ -33,15 +33,16 @@ pub struct Record<'a, A: Allocator> {
 
 /// A record as it is kept. It is available where its mark is the store's number, and its stable
 /// version counts where it was copied under the store's number.
-// What a call asks of it stands first, so that it lies together in memory.
+// What a call asks of it stands first, so that it lies together in memory; what needs no place at a
+// multiple of eight bytes stands last, so that no room is lost behind it.
 #[derive(Drop)]
 pub(crate) struct Entry<A: Allocator> {
     pub(crate) live: Option<Value<A>>,
     pub(crate) mark: u64,
     pub(crate) copied: u64,
-    pub(crate) aside: bool,
     pub(crate) stable: Option<Value<A>>,
     pub(crate) key: Key,
+    pub(crate) aside: bool,
 }
 
 /// A slot: vacant, or with the record in it.

@@ -4,8 +4,8 @@ use Rattle.record_store.proofs.dead_keys.lengthen.Given as goal
 abbrev pub invariant-loop-nodes : goal.invariant-loop-nodes
 invariant-loop-nodes g l = record {
   items : l.nodes.items ≡ l.fn.nodes.items ++ replicate (length l.nodes.items - length l.fn.nodes.items) None;
+  memory : vec_capacity l.nodes ≡ vec_capacity l.fn.nodes;
   more : length l.fn.nodes.items ≤ length l.nodes.items;
-  room : l.len ≤ vec_capacity l.nodes;
   within : length l.nodes.items ≤ l.len;
 }
 

@@ -1,7 +1,27 @@
-use Rattle.std.proofs.Common.{◌∙◌, sym}
+use Rattle.std.proofs.Common.{◌≡◌, ◌∙◌, ◌+◌, ◌≤◌, length, ap, sym, arith}
+use Rattle.std.specs.Cmp.{unsigned_ties}
 use Rattle.std.specs.Cmp.Lexicographic.{texts_ties}
+use Rattle.byteorder.specs.Endian.{big_from}
+use Rattle.procedure.specs.Bytes.{Bytes}
+use Rattle.procedure.proofs.KeyOrders.{SameBefore, by_length, same_after}
 use Rattle.procedure.proofs.keys.KeyPartialEq.eq.Goals as goal
 
--- keys of which neither is less are the same
+pub loop-from-preserved : goal.loop-from-preserved
+loop-from-preserved c =
+    let x = c.args.self.now in
+    let y = c.args.other.now in
+    let number : big_from c.loop-from.from 8 x ≡ big_from c.loop-from.from 8 y = sym c.word.ensures.value ∙ c.if-word.false ∙ c.word-in-loop-from.ensures.value in
+    let q = c.loop-from.invariant.1 in
+    let e = c.loop-from.invariant.2 in
+    (same_after c.loop-from.from 8 x y c.word.ensures.bytes c.word-in-loop-from.ensures.bytes c.loop-from.invariant.0 number, q + 1, omega (arith, e))
+
+-- keys with the same in all places differ in their lengths alone
 pub returns : goal.returns
-returns c = c.is_eq.ensures ∙ rw (c.cmp.ensures) (sym (texts_ties c.args.self.now c.args.other.now))
+returns c =
+    let x = c.args.self.now in
+    let y = c.args.other.now in
+    let same : SameBefore 32 x y = λ i less. c.loop-from.invariant.0 i (omega (arith, less, c.loop-from-test.false)) in
+    let one : c.self.inside.len ≡ length x = c.self.invariant.len_is ∙ ap (λ (b : Bytes). length b) c.self.view_is in
+    let two : c.other.inside.len ≡ length y = c.other.invariant.len_is ∙ ap (λ (b : Bytes). length b) c.other.view_is in
+    let fits : length x ≤ 32 = omega (arith, one, c.self.invariant.fits) in
+    unsigned_ties c.self.inside.len c.other.inside.len ∙ rw (one, two) (rw (sym (by_length 32 x y fits same)) (sym (texts_ties x y)))
