@@ -174,9 +174,10 @@ impl<A: Allocator> Clone for Procedure<A> {
 
 /// A call of a procedure of the catalog, by its index, in a session.
 #[derive(Clone, Debug, Drop)]
+// The number first, so that no room is lost between the others.
 pub struct Call<A: Allocator> {
-    pub session: u16,
     pub number: u64,
+    pub session: u16,
     pub procedure: u16,
     pub args: Sequence<Value<A>, A>,
 }
