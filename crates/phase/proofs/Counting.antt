@@ -1,8 +1,5 @@
 -- Counts of the start phases.
-use Rattle.std.proofs.Common.{◌≡◌, ℕ, zero, suc, ◌+◌, ◌≤◌, ◌↔◌, [], ◌∷◌, length, Option, Some, None, slice_get, refl, sym, ap, ◌∙◌, arith, lit≤, map, ◌<◌, take, drop, get_or, slice_set, add-one, drop-cons, ◌++◌}
-use Rattle.std.proofs.Math.Seq.{take-suc, take-suc-set}
-use Rattle.std.proofs.lemmas.List.{drop-set-lt, map-append, take_all}
-use Rattle.std.proofs.lemmas.Grind.{common_steps}
+use Rattle.std.proofs.Common.{◌≡◌, ℕ, zero, suc, ◌+◌, ◌≤◌, ◌↔◌, [], ◌∷◌, length, Option, Some, None, slice_get, refl, sym, ap, ◌∙◌, arith, lit≤}
 use Rattle.std.proofs.lemmas.List.Sums.{sum_by-cons}
 use Rattle.phase.specs.Phases.{Phase, Rest, Prepare, Resolve, Capture, Complete, Starts, AllStartedIn, MayLeave}
 use Rattle.phase.specs.Counts.{one_if, counts_one, count_in, IsCounted, Takes, HasNoOthers, IsAtMost}
@@ -112,34 +109,3 @@ fewer_at_most more less start n t h =
     let a = t.rest in let b = t.prepare in let c = t.resolve in let d = t.capture in let e = t.complete in
     let v = h.rest in let w = h.prepare in let x = h.resolve in let y = h.capture in let z = h.complete in
     record { rest = omega arith; prepare = omega arith; resolve = omega arith; capture = omega arith; complete = omega arith }
-
--- one more session restarted
-same_tail : (x y : Option Phase) (xs ys : Starts) → x ∷ xs ≡ y ∷ ys → xs ≡ ys
-same_tail x y xs ys e = cc
-
-module _ (f : Option Phase → Option Phase) (xs ys : Starts) (i : ℕ) (within : i < length xs) (long : length ys ≡ length xs) (done : take i ys ≡ map f (take i xs)) (rest : drop i ys ≡ drop i xs) where
-  -- what stands there now is what stood there
-  pub same_here : (d : Option Phase) → get_or ys i d ≡ get_or xs i d
-  same_here d = grind (arith, common_steps)
-
-  pub more_done : (d : Option Phase) (zs : Starts) → zs ≡ slice_set ys i (f (get_or xs i d)) → take (i + 1) zs ≡ map f (take (i + 1) xs)
-  more_done d zs e =
-      ap (λ n. take n zs) (add-one i)
-      ∙ ap (take (suc i)) e
-      ∙ take-suc-set ys i (f (get_or xs i d)) (omega arith)
-      ∙ ap (λ p. p ++ f (get_or xs i d) ∷ []) done
-      ∙ sym (map-append f (take i xs) (get_or xs i d ∷ []))
-      ∙ ap (map f) (sym (take-suc xs i d within))
-      ∙ sym (ap (λ n. map f (take n xs)) (add-one i))
-
-  pub less_rest : (x : Option Phase) (zs : Starts) → zs ≡ slice_set ys i x → drop (i + 1) zs ≡ drop (i + 1) xs
-  less_rest x zs e =
-      ap (λ n. drop n zs) (add-one i)
-      ∙ ap (drop (suc i)) e
-      ∙ drop-set-lt (suc i) ys i x (omega arith)
-      ∙ same_tail _ _ _ _ (sym (drop-cons ys i None (omega arith)) ∙ rest ∙ drop-cons xs i None within)
-      ∙ sym (ap (λ n. drop n xs) (add-one i))
-
-pub all_done : (f : Option Phase → Option Phase) (xs ys : Starts) (n : ℕ) → length xs ≤ n → length ys ≡ length xs → take n ys ≡ map f (take n xs) → ys ≡ map f xs
-all_done f xs ys n most long done =
-    sym (take_all n ys (omega arith)) ∙ done ∙ ap (map f) (take_all n xs most)

@@ -2,5 +2,4 @@
 pub mod CoreState
 pub mod OpenedCore
 pub mod FilledLists
-pub mod ChangedItems
 pub mod KeyStatuses

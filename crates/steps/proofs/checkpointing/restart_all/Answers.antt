@@ -1,7 +1,7 @@
 use Rattle.std.proofs.Common.{◌≡◌, ◌<◌, Option, length, length-set, option_map, slice_set, slice_index_or, refl, ap, ◌∙◌, arith}
+use Rattle.phase.proofs.ChangedItems.{all_done, less_rest, more_done, same_here}
 use Rattle.steps.specs.inside.CoreFields.{restarted_call}
 use Rattle.steps.specs.declared.calls.OpenCall.{OpenCall}
-use Rattle.steps.proofs.views.ChangedItems.{all_done, less_rest, more_done, same_here}
 use Rattle.steps.proofs.checkpointing.restart_all.Goals as goal
 
 pub loop-session-preserved : goal.loop-session-preserved
