@@ -1,14 +1,13 @@
-use Rattle.std.proofs.Common.{◌≡◌, cond, Some, None, refl, sym, ap, ◌∙◌, subst, nat_eq}
-use Rattle.std.specs.Cmp.Lexicographic.{pointwise, nat_list_eq_equiv}
+use Rattle.std.proofs.Common.{Some, None, refl, sym, ap, ◌∙◌, subst}
+use Rattle.std.specs.Cmp.Lexicographic.{nat_list_eq_equiv}
 use Rattle.indexmap.proofs.CallerLemmas.{updates-with_value_at}
-use Rattle.procedure.specs.Bytes.{Bytes}
 use Rattle.procedure.specs.Table.{KeyMap}
 use Rattle.locktable.specs.declared.holders.Holders.{Holders}
 use Rattle.locktable.specs.Locks.{with_entry}
 use Rattle.locktable.specs.Holders.{ChangesTo, mode_among}
 use Rattle.locktable.specs.Modes.{IsAtMost}
-use Rattle.procedure.proofs.Maps.{at_key, get-view}
-use Rattle.locktable.proofs.Lookups.{at_some, index-with_entry, stored_key}
+use Rattle.procedure.proofs.Maps.{get-view}
+use Rattle.locktable.proofs.Lookups.{at_some, index-with_entry}
 use Rattle.locktable.proofs.Setting.{if_some, sets_mode, sets_nothing}
 use Rattle.locktable.proofs.key_holders.KeyHolders.weaken.Goals as goal
 
