@@ -100,19 +100,6 @@ fn chain_of<A: Allocator>(entries: &[Entry<A>]) -> [u8; 32]
     chain
 }
 
-fn copy_of<A: Allocator + Clone>(
-    alloc: A,
-    entries: &[Entry<A>],
-) -> Result<Vec<Entry<A>, A>, AllocError>
-    ensures { IfOk result (λ copy. copy.items ≡ entries.now) }
-{
-    let mut copy = Vec::with_capacity(alloc, entries.len())?;
-    for entry in entries {
-        copy.push(entry.clone()?)?;
-    }
-    Ok(copy)
-}
-
 /// The image of a header and its entries. The digest is compared in the order in which they are
 /// handed in; then a copy of them is sorted by key.
 pub fn assemble<A: Allocator + Clone>(
@@ -129,7 +116,7 @@ pub fn assemble<A: Allocator + Clone>(
     if header.count != entries.len() || header.chain != chain_of(entries) {
         return Err(AssembleError::BadForm);
     }
-    let copy = copy_of(alloc, entries)?;
+    let copy = entries.to_vec(alloc)?;
     match Image::captured(header.kind, header.number, header.base, header.place, copy) {
         Some(image) => Ok(image),
         None => Err(AssembleError::BadForm),

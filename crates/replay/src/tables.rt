@@ -28,19 +28,6 @@ fn pairs_of<A: Allocator + Clone>(
     Ok(pairs)
 }
 
-fn copy_of_entries<A: Allocator + Clone>(
-    alloc: A,
-    entries: &[Entry<A>],
-) -> Result<Vec<Entry<A>, A>, NoMemory>
-    ensures { IfOk result (λ copy. copy.items ≡ entries.now) }
-{
-    let mut copy = Vec::with_capacity(alloc, entries.len())?;
-    for entry in entries {
-        copy.push(entry.clone()?)?;
-    }
-    Ok(copy)
-}
-
 fn table_with<A: Allocator + Copy>(
     alloc: A,
     entries: Vec<Entry<A>, A>,
@@ -71,6 +58,6 @@ pub(crate) fn copy_of_table<A: Allocator + Copy>(
 ) -> Result<Table<A>, NoMemory>
     ensures { IfOk result (λ t. t ≡ table_of image.now) }
 {
-    let copy = copy_of_entries(alloc.clone()?, image.entries())?;
+    let copy = image.entries().to_vec(alloc.clone()?)?;
     table_with(alloc, copy)
 }

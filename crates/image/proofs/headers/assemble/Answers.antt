@@ -15,7 +15,7 @@ returns-then-header-entries-clause-bad_form g c = λ _ fits.
 pub returns-in-Some-clause-fits : goal.returns-in-Some-clause-fits
 returns-in-Some-clause-fits g c =
     let h = c.args.header.now in
-    let lawful = subst (λ (es : List Entry). EachKeyOnce es × IsLawfulImage (assembled h es)) c.in_ok-copy.ensures (c.in-Some.ensures.lawful.0 refl) in
+    let lawful = subst (λ (es : List Entry). EachKeyOnce es × IsLawfulImage (assembled h es)) (c.in_ok-copy.ensures.items_if_clones_equal (λ x y e. e)) (c.in-Some.ensures.lawful.0 refl) in
     record {
       count = c.if-header-entries.false;
       chain = alike h.chain c.chain_of.result (sym c.ne.ensures ∙ c.if-ne.false) ∙ c.chain_of.ensures;

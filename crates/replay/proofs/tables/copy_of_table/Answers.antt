@@ -11,5 +11,5 @@ use Rattle.replay.proofs.tables.copy_of_table.Goals as goal
 pub returns : goal.returns
 returns g c =
     if_ok (λ (t : Table). t ≡ with_pairs empty (pairs_of c.in_ok-copy.copy.items)) (λ (t : Table). t ≡ table_of c.args.image.now)
-    (λ t e. e ∙ ap (λ (es : List Entry). with_pairs empty (pairs_of es)) (c.in_ok-copy.ensures ∙ c.entries.ensures.value) ∙ table_of_pairs c.args.image.now c.entries.ensures.lawful)
+    (λ t e. e ∙ ap (λ (es : List Entry). with_pairs empty (pairs_of es)) (c.in_ok-copy.ensures.items_if_clones_equal (λ x y e. e) ∙ c.entries.ensures.value) ∙ table_of_pairs c.args.image.now c.entries.ensures.lawful)
     c.table_with.result c.table_with.ensures
