@@ -1,3 +1,4 @@
+pub mod Tables
 pub mod Images
 pub mod Views
 pub mod Merges

@@ -24,16 +24,13 @@ pub(crate) struct Layers<A: Allocator> {
 }
 
 impl<A: Allocator> Model for Layers<A> {
-    ghost use Rattle.std.specs.Coded.{coded_list, coded_ℕ};
-    ghost use Rattle.std.specs.Ordering.{nat_cmp};
-    ghost use Rattle.std.specs.Cmp.Lexicographic.{slice_cmp};
-    ghost use Rattle.std.specs.FinMap as finite;
     ghost use Rattle.procedure.specs.Table.{Table};
     ghost use Rattle.image.specs.Layers.{AllRise, layers_of, table_of_layers};
+    ghost use Rattle.image.specs.Tables.{table_code};
 
     ghost Value = { Table };
 
-    ghost coded = { finite.code {R = slice_cmp nat_cmp} (coded_list coded_ℕ) (coded_list coded_ℕ) };
+    ghost coded = { table_code };
 
     ghost view = { table_of_layers };
 

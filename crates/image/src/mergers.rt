@@ -27,15 +27,13 @@ struct Chain<A: Allocator> {
 }
 
 impl<A: Allocator> Model for Chain<A> {
-    ghost use Rattle.std.specs.Coded.{codes, coded_list, coded_ℕ};
-    ghost use Rattle.std.specs.Ordering.{nat_cmp};
-    ghost use Rattle.std.specs.Cmp.Lexicographic.{slice_cmp};
-    ghost use Rattle.std.specs.FinMap as finite;
+    ghost use Rattle.std.specs.Coded.{codes};
     ghost use Rattle.image.specs.Mergers.{Chain};
+    ghost use Rattle.image.specs.Tables.{table_code};
 
     ghost Value = { Chain };
 
-    ghost coded = { Prim.hlevel (codes, finite.code {R = slice_cmp nat_cmp} (coded_list coded_ℕ) (coded_list coded_ℕ)) };
+    ghost coded = { Prim.hlevel (codes, table_code) };
 
     ghost view = { λ c. record { number = c.number; place = c.place; table = c.table } };
 }
@@ -50,15 +48,13 @@ pub struct Merger<A: Allocator> {
 }
 
 impl<A: Allocator> Model for Merger<A> {
-    ghost use Rattle.std.specs.Coded.{codes, coded_list, coded_ℕ};
-    ghost use Rattle.std.specs.Ordering.{nat_cmp};
-    ghost use Rattle.std.specs.Cmp.Lexicographic.{slice_cmp};
-    ghost use Rattle.std.specs.FinMap as finite;
+    ghost use Rattle.std.specs.Coded.{codes};
     ghost use Rattle.image.specs.Mergers.{Merging};
+    ghost use Rattle.image.specs.Tables.{table_code};
 
     ghost Value = { Merging };
 
-    ghost coded = { Prim.hlevel (codes, finite.code {R = slice_cmp nat_cmp} (coded_list coded_ℕ) (coded_list coded_ℕ)) };
+    ghost coded = { Prim.hlevel (codes, table_code) };
 
     ghost view = { λ m. record { count = m.count; chain = m.chain } };
 }
