@@ -8,23 +8,21 @@ use Rattle.procedure.specs.Table.{Table}
 use Rattle.procedure.specs.Procedures.{Procedure}
 use Rattle.commitlog.specs.Records.{Record}
 use Rattle.commitlog.specs.Histories.{EachAfter, after, table_after}
-use Rattle.commitlog.specs.LogReadings.{Reading, Log, NotALog, Damaged, IsReading}
 use Rattle.commitlog.specs.declared.formats.Version.{Version}
 use Rattle.commitlog.specs.declared.formats.LogHeader.{LogHeader}
 use Rattle.commitlog.specs.declared.decoding.Ending.{Ending}
 use Rattle.commitlog.specs.declared.decoding.LogError.{LogError}
-use Rattle.commitlog.specs.declared.decoding.LogError.TheVariants as log
 use Rattle.commitlog.proofs.Histories.{each-push, after-push}
-use Rattle.commitlog.proofs.OneReadings.{one_reading}
 use Rattle.image.specs.Images.{Image}
 use Rattle.image.specs.Merges.{table_of}
 use Rattle.image.specs.Openings.{is_opening}
+use Rattle.replay.proofs.Answering.{ToBytes, one_of_bytes}
 use Rattle.replay.specs.Parts.{AreAudited, EntryAgain, audited_at}
 use Rattle.replay.specs.Replays.{IsAnsweredOn, LeavesFewOn, Diverges, Overflows, IsFirst, calls_in, is_torn}
 use Rattle.replay.specs.Headers.{NamesCatalog, NamesOpening}
 use Rattle.replay.specs.Orders.{IsAfter, IsInOrder}
 use Rattle.replay.specs.Refusals.{audit_of_log}
-use Rattle.replay.specs.Audits.{FailsAt, InOrderBut, IsAudit, IsOutOfOrder, NamesBoth, OfLog, OfReading, Passes}
+use Rattle.replay.specs.Audits.{FailsAt, InOrderBut, IsAudit, IsOutOfOrder, NamesBoth, OfLog, Passes}
 use Rattle.replay.specs.declared.audits.Audited.{Audited}
 use Rattle.replay.specs.declared.calls.CallError.{CallError}
 use Rattle.replay.specs.declared.calls.CallError.TheVariants as stopped
@@ -206,37 +204,21 @@ module _ (c : List Procedure) (i : Image) (v : Version) (h : LogHeader) (l : Lis
   pub one_of_log : (x y : Result Audited AuditError) → OfLog c i v h l e x → OfLog c i v h l e y → x ≡ y
   one_of_log x y a b = one_told x y (told x a) (told y b)
 
-one_of_reading : (c : List Procedure) (i : Image) (r : Reading) (x y : Result Audited AuditError) → OfReading c i r x → OfReading c i r y → x ≡ y
-one_of_reading c i NotALog x y a b = a ∙ sym b
-one_of_reading c i (Damaged j) x y a b = a ∙ sym b
-one_of_reading c i (Log v h l e) x y a b = one_of_log c i v h l e x y a b
+-- the answer to bytes that are no log
+abbrev pub refusal_of : LogError → Result Audited AuditError
+refusal_of e = Err (audit_of_log e)
 
 -- there is one answer
 pub one_audit : (c : List Procedure) (i : Image) (text : Bytes) (x y : Result Audited AuditError) → IsAudit c i text x → IsAudit c i text y → x ≡ y
 one_audit c i text x y (inl a) (inl b) = a.1 ∙ sym b.1
 one_audit c i text x y (inl a) (inr b) = absurd (true≢false (sym b.0 ∙ a.0))
 one_audit c i text x y (inr a) (inl b) = absurd (true≢false (sym a.0 ∙ b.0))
-one_audit c i text x y (inr a) (inr b) = one_of_reading c i a.1 x y a.3 (subst (λ r. OfReading c i r y) (one_reading text b.1 a.1 b.2 a.2) b.3)
+one_audit c i text x y (inr a) (inr b) = one_of_bytes refusal_of (OfLog c i) (one_of_log c i) text x y (a.1, a.2, a.3) (b.1, b.2, b.3)
 
 pub or_no_memory : (c : List Procedure) (i : Image) (text : Bytes) (x y : Result Audited AuditError) → IsAudit c i text x ⊎ (x ≡ Err refused.NoMemory) → IsAudit c i text y →
     (x ≡ y) ⊎ (x ≡ Err refused.NoMemory)
 or_no_memory c i text x y a b = ⊎_map (λ is. one_audit c i text x y is b) (λ none. none) a
 
--- ---- from an opening and bytes
-
-abbrev unread : {X : Type 0} → LogError → Result X LogError
-unread e = Err e
-
-abbrev nothing : AuditError → Result Audited AuditError
-nothing e = Err e
-
-module _ (c : List Procedure) (i : Image) (text : Bytes) (opening : is_opening i ≡ true) where
-  pub from_log : (v : Version) (h : LogHeader) (l : List Record) (e : Ending) (x : Result Audited AuditError) → IsReading text (Log v h l e) →
-      OfLog c i v h l e x ⊎ (x ≡ Err refused.NoMemory) → IsAudit c i text x ⊎ (x ≡ Err refused.NoMemory)
-  from_log v h l e x read = ⊎_map (λ said. inr (opening, Log v h l e, read, said)) (λ none. none)
-
-  pub from_no_log : {X : Type 0} (e : LogError) → (unread {X = X} e ≡ Err log.NotALog → IsReading text NotALog) → ((j : ℕ) → unread {X = X} e ≡ Err (log.Damaged j) → IsReading text (Damaged j)) →
-      IsAudit c i text (nothing (audit_of_log e)) ⊎ (nothing (audit_of_log e) ≡ Err refused.NoMemory)
-  from_no_log log.NotALog not_one damaged = inl (inr (opening, NotALog, not_one refl, refl))
-  from_no_log (log.Damaged j) not_one damaged = inl (inr (opening, Damaged j, damaged j refl, refl))
-  from_no_log log.NoMemory not_one damaged = inr refl
+-- what is answered to the bytes is, at an opening, that of the audit
+pub is_audit : (c : List Procedure) (i : Image) (text : Bytes) → is_opening i ≡ true → (x : Result Audited AuditError) → ToBytes refusal_of (OfLog c i) text x → IsAudit c i text x
+is_audit c i text opening x told = inr (opening, told.0, told.1, told.2)

@@ -3,6 +3,7 @@ pub mod ImageTables
 pub mod Reruns
 pub mod Recovering
 pub mod Firsts
+pub mod Answering
 pub mod Auditing
 pub mod LogFronts
 pub mod OpeningImages

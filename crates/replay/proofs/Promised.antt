@@ -36,7 +36,7 @@ use Rattle.replay.specs.declared.errors.RecoverError.{RecoverError}
 use Rattle.replay.specs.declared.errors.RecoverError.TheVariants as refused
 use Rattle.replay.proofs.ChainCuts.{chain_is_cut, last_place}
 use Rattle.replay.proofs.LogFronts.{fronts_are_read}
-use Rattle.replay.proofs.Recovering.{from_reading, or_no_memory}
+use Rattle.replay.proofs.Recovering.{is_recovery, or_no_memory}
 use Rattle.replay.proofs.OpeningImages.{Opening, change_at-full, opening_is, parts_of, table_of-full}
 
 -- ---- each call of a history runs again
@@ -212,7 +212,7 @@ module _ (c : List Procedure) (opening : Image) (v : Version) (h : LogHeader) (m
   ]
     where
       is_one : IsRecovery c (full ∷ ps) text (Ok (recovery c merged m e))
-      is_one = from_reading c (full ∷ ps) text merged chained (Log v h m e) (Ok (recovery c merged m e)) read of_log
+      is_one = is_recovery c (full ∷ ps) text merged chained (Ok (recovery c merged m e)) (Log v h m e, read, of_log)
 
 pub from_images : (c : List Procedure) (is : List Image) (text : Bytes) (x : Result Recovery RecoverError) → IsRecovery c is text x ⊎ (x ≡ Err refused.NoMemory) → FromImages c is text x
 from_images c is text x answer opening v h m left e full ps history read images chain holds =

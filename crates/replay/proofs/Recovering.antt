@@ -10,18 +10,16 @@ use Rattle.commitlog.specs.declared.formats.Version.{Version}
 use Rattle.commitlog.specs.declared.formats.LogHeader.{LogHeader}
 use Rattle.commitlog.specs.declared.decoding.Ending.{Ending}
 use Rattle.commitlog.specs.Histories.{EachAfter}
-use Rattle.commitlog.specs.LogReadings.{Reading, Log, NotALog, Damaged, IsReading}
 use Rattle.commitlog.specs.declared.decoding.LogError.{LogError}
-use Rattle.commitlog.specs.declared.decoding.LogError.TheVariants as log
-use Rattle.commitlog.proofs.OneReadings.{one_reading}
 use Rattle.image.specs.Images.{Image}
 use Rattle.image.specs.declared.merges.MergeError.{MergeError}
 use Rattle.image.specs.Merges.{table_of}
+use Rattle.replay.proofs.Answering.{ToBytes, one_of_bytes}
 use Rattle.replay.specs.Parts.{RunAgain}
 use Rattle.replay.specs.Replays.{is_torn, RunsAgain, Diverges, Overflows}
 use Rattle.replay.specs.Headers.{NamesCatalog}
 use Rattle.replay.specs.Refusals.{of_log}
-use Rattle.replay.specs.Recovery.{BeginsLog, FailsAt, GoesOn, IsPlaced, IsRecovery, OfChain, OfLog, OfReading, Recovery, chain_of, recovery, uncovered}
+use Rattle.replay.specs.Recovery.{BeginsLog, FailsAt, GoesOn, IsPlaced, IsRecovery, OfChain, OfLog, Recovery, chain_of, recovery, uncovered}
 use Rattle.replay.specs.declared.errors.RecoverError.{RecoverError}
 use Rattle.replay.specs.declared.errors.RecoverError.TheVariants as refused
 use Rattle.replay.proofs.Firsts.{Excludes, each_or_first, same_first, one_fault}
@@ -125,14 +123,13 @@ module _ (c : List Procedure) (i : Image) (v : Version) (h : LogHeader) (l : Lis
   pub one_of_log : (x y : Result Recovery RecoverError) → OfLog c i v h l e x → OfLog c i v h l e y → x ≡ y
   one_of_log x y a b = one_told x y (told x a) (told y b)
 
-one_of_reading : (c : List Procedure) (i : Image) (r : Reading) (x y : Result Recovery RecoverError) → OfReading c i r x → OfReading c i r y → x ≡ y
-one_of_reading c i NotALog x y a b = a ∙ sym b
-one_of_reading c i (Damaged j) x y a b = a ∙ sym b
-one_of_reading c i (Log v h l e) x y a b = one_of_log c i v h l e x y a b
+-- the answer to bytes that are no log
+abbrev pub refusal_of : LogError → Result Recovery RecoverError
+refusal_of e = Err (of_log e)
 
 one_of_chain : (c : List Procedure) (text : Bytes) (k : Result Image MergeError) (x y : Result Recovery RecoverError) → OfChain c text k x → OfChain c text k y → x ≡ y
 one_of_chain c text (Err e) x y a b = a ∙ sym b
-one_of_chain c text (Ok i) x y a b = one_of_reading c i a.0 x y a.2 (subst (λ r. OfReading c i r y) (one_reading text b.0 a.0 b.1 a.1) b.2)
+one_of_chain c text (Ok i) x y a b = one_of_bytes refusal_of (OfLog c i) (one_of_log c i) text x y a b
 
 -- there is one answer
 pub one_recovery : (c : List Procedure) (is : List Image) (text : Bytes) (x y : Result Recovery RecoverError) → IsRecovery c is text x → IsRecovery c is text y → x ≡ y
@@ -142,24 +139,7 @@ pub or_no_memory : (c : List Procedure) (is : List Image) (text : Bytes) (x y : 
     (x ≡ y) ⊎ (x ≡ Err refused.NoMemory)
 or_no_memory c is text x y a b = ⊎_map (λ told. one_recovery c is text x y told b) (λ none. none) a
 
--- ---- from images and bytes
-
-abbrev unread : {X : Type 0} → LogError → Result X LogError
-unread e = Err e
-
-abbrev nothing : RecoverError → Result Recovery RecoverError
-nothing e = Err e
-
-module _ (c : List Procedure) (is : List Image) (text : Bytes) (i : Image) (chained : chain_of is ≡ Ok i) where
-  pub from_reading : (r : Reading) (x : Result Recovery RecoverError) → IsReading text r → OfReading c i r x → IsRecovery c is text x
-  from_reading r x read told = subst (λ k. OfChain c text k x) (sym chained) (r, read, told)
-
-  pub from_log : (v : Version) (h : LogHeader) (l : List Record) (e : Ending) (x : Result Recovery RecoverError) → IsReading text (Log v h l e) →
-      OfLog c i v h l e x ⊎ (x ≡ Err refused.NoMemory) → IsRecovery c is text x ⊎ (x ≡ Err refused.NoMemory)
-  from_log v h l e x read = ⊎_map (from_reading (Log v h l e) x read) (λ none. none)
-
-  pub from_no_log : {X : Type 0} (e : LogError) → (unread {X = X} e ≡ Err log.NotALog → IsReading text NotALog) → ((j : ℕ) → unread {X = X} e ≡ Err (log.Damaged j) → IsReading text (Damaged j)) →
-      IsRecovery c is text (nothing (of_log e)) ⊎ (nothing (of_log e) ≡ Err refused.NoMemory)
-  from_no_log log.NotALog not_one damaged = inl (from_reading NotALog (Err refused.NotALog) (not_one refl) refl)
-  from_no_log (log.Damaged j) not_one damaged = inl (from_reading (Damaged j) (Err (refused.Damaged j)) (damaged j refl) refl)
-  from_no_log log.NoMemory not_one damaged = inr refl
+-- what is answered to the bytes, where the images are one, is what is recovered
+pub is_recovery :
+    (c : List Procedure) (is : List Image) (text : Bytes) (i : Image) → chain_of is ≡ Ok i → (x : Result Recovery RecoverError) → ToBytes refusal_of (OfLog c i) text x → IsRecovery c is text x
+is_recovery c is text i chained x told = subst (λ k. OfChain c text k x) (sym chained) told

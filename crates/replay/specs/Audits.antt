@@ -6,7 +6,7 @@ use Rattle.procedure.specs.Table.{Table}
 use Rattle.procedure.specs.Procedures.{Procedure}
 use Rattle.commitlog.specs.Records.{Record}
 use Rattle.commitlog.specs.Histories.{EachAfter}
-use Rattle.commitlog.specs.LogReadings.{Reading, Log, NotALog, Damaged, IsReading}
+use Rattle.commitlog.specs.LogReadings.{Reading, IsReading}
 use Rattle.commitlog.specs.declared.formats.Version.{Version}
 use Rattle.commitlog.specs.declared.formats.LogHeader.{LogHeader}
 use Rattle.commitlog.specs.declared.decoding.Ending.{Ending}
@@ -15,6 +15,8 @@ use Rattle.image.specs.Merges.{table_of}
 use Rattle.image.specs.Openings.{is_opening}
 use Rattle.replay.specs.Replays.{RunsAgain, Diverges, Overflows, IsFirst, calls_in, is_torn}
 use Rattle.replay.specs.Orders.{IsInOrder}
+use Rattle.replay.specs.Answers.{ToReading}
+use Rattle.replay.specs.Refusals.{audit_of_log}
 use Rattle.replay.specs.Headers.{NamesCatalog, NamesOpening}
 use Rattle.replay.specs.declared.audits.Audited.{Audited}
 use Rattle.replay.specs.declared.errors.AuditError.{AuditError}
@@ -55,9 +57,7 @@ OfLog c i v h l e (Err refused.NoMemory) = ⊥
 
 -- to an opening and what bytes say as a log
 abbrev pub OfReading : List Procedure → Image → Reading → Result Audited AuditError → Type 0
-OfReading c i NotALog a = a ≡ Err refused.NotALog
-OfReading c i (Damaged j) a = a ≡ Err (refused.Damaged j)
-OfReading c i (Log v h l e) a = OfLog c i v h l e a
+OfReading c i = ToReading (λ e. Err (audit_of_log e)) (OfLog c i)
 
 -- what is answered, want of memory apart
 abbrev pub IsAudit : List Procedure → Image → Bytes → Result Audited AuditError → Type 0

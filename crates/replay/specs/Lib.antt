@@ -2,6 +2,7 @@ pub mod Replays
 pub mod Orders
 pub mod Headers
 pub mod Refusals
+pub mod Answers
 pub mod Recovery
 pub mod Audits
 pub mod Promises

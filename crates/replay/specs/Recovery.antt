@@ -1,27 +1,26 @@
 -- What is recovered from images and a log, and when nothing is.
 use Rattle.std.specs.Prelude.{◌≡◌, ◌<◌, ◌+◌, ℕ, Bool, List, [], ◌∷◌, drop, slice_get, Some, None, Ok, Err, refl}
 use Rattle.std.specs.declared.result.Result.{Result}
-use Rattle.std.specs.Coded.{Coded, code_by, coded×, coded_ℕ, coded_bool, coded_list}
-use Rattle.std.specs.Ordering.{nat_cmp}
-use Rattle.std.specs.Cmp.Lexicographic.{slice_cmp}
-use Rattle.std.specs.FinMap as map
+use Rattle.std.specs.Coded.{Coded, code_by, coded×, coded_ℕ, coded_bool}
 use Rattle.procedure.specs.Bytes.{Bytes}
 use Rattle.procedure.specs.Table.{Table}
 use Rattle.procedure.specs.Procedures.{Procedure}
 use Rattle.phase.specs.declared.phases.Phase.TheVariants.{Resolve}
 use Rattle.commitlog.specs.Records.{Record, Token}
 use Rattle.commitlog.specs.Histories.{EachAfter, after}
-use Rattle.commitlog.specs.LogReadings.{Reading, Log, NotALog, Damaged, IsReading}
+use Rattle.commitlog.specs.LogReadings.{Reading, IsReading}
 use Rattle.commitlog.specs.declared.formats.Version.{Version}
 use Rattle.commitlog.specs.declared.formats.LogHeader.{LogHeader}
 use Rattle.commitlog.specs.declared.decoding.Ending.{Ending}
 use Rattle.image.specs.Images.{Image}
+use Rattle.image.specs.Tables.{table_code}
 use Rattle.image.specs.Merges.{Refusal, merged_image, refusal_of, table_of}
 use Rattle.image.specs.declared.merges.MergeError.{MergeError}
 use Rattle.image.specs.declared.merges.MergeError.TheVariants as merge
 use Rattle.replay.specs.Replays.{RunsAgain, Diverges, Overflows, IsFirst, calls_in, is_torn}
 use Rattle.replay.specs.Headers.{NamesCatalog, NamesOpening}
-use Rattle.replay.specs.Refusals.{of_merge}
+use Rattle.replay.specs.Answers.{ToReading}
+use Rattle.replay.specs.Refusals.{of_log, of_merge}
 use Rattle.replay.specs.declared.errors.RecoverError.{RecoverError}
 use Rattle.replay.specs.declared.errors.RecoverError.TheVariants as refused
 
@@ -33,7 +32,7 @@ pub record Recovery : Type 0 where
 
 abbrev pub recovery_code : Coded Recovery
 recovery_code =
-    code_by (Table × (ℕ × Bool)) (coded× (map.code {R = slice_cmp nat_cmp} (coded_list coded_ℕ) (coded_list coded_ℕ)) (coded× coded_ℕ coded_bool))
+    code_by (Table × (ℕ × Bool)) (coded× table_code (coded× coded_ℕ coded_bool))
     (λ r. (r.state, (r.calls, r.torn))) (λ p. record { state = p.0; calls = p.1.0; torn = p.1.1 }) (λ _. refl)
 
 -- an image of number 0 is the one that the log began with
@@ -81,9 +80,7 @@ OfLog c i v h l e (Err refused.NoMemory) = ⊥
 
 -- to an image and what bytes say as a log
 abbrev pub OfReading : List Procedure → Image → Reading → Result Recovery RecoverError → Type 0
-OfReading c i NotALog a = a ≡ Err refused.NotALog
-OfReading c i (Damaged j) a = a ≡ Err (refused.Damaged j)
-OfReading c i (Log v h l e) a = OfLog c i v h l e a
+OfReading c i = ToReading (λ e. Err (of_log e)) (OfLog c i)
 
 abbrev pub chain_or : Image → Refusal → Result Image MergeError
 chain_or i None = Ok i
