@@ -74,6 +74,24 @@ taken_from ps p n t = by (slice_get ps p) refl t
     by None e t = absurd t
     by (Some x) e t = (x, e, t)
 
+-- what an answer with the outcome o makes of the parts of a core
+pub record IsAnswered {A : Type 0} (c : Inside A) (s : ℕ) (call : OpenCall A)
+    (log : Log) (store : Slots) (locks : Locks) (changed : ChangedSets) (calls : Vec (Option (OpenCall A)) A) (active : Starts) (last : Vec (Option ℕ) A) (aside : Aside) (o : ℕ) : Type 0 where
+  pub outcome : o ≡ call.machine.progress.outcome
+  pub ends : is_nil call.machine.progress.rest ≡ true
+  pub log_is : log.records ≡ c.log.records ++ Call s call.number call.procedure call.machine.args o call.machine.progress.replies ∷ []
+  pub calls_are : calls.items ≡ slice_set c.calls.items s None
+  pub versions : (q : Bytes) → versions_in store q ≡ cond (o == COMMITTED) (all_kept call.start c.phase (map noted_of call.notes.items) (versions_in c.store) q)
+      (all_undone (map noted_of call.notes.items) (versions_in c.store) q)
+  pub collecting : (q : Bytes) → has changed.collecting q ≡ cond (o == COMMITTED) (is_some (first_noted (map noted_of call.notes.items) q) || has c.changed.collecting q) (has c.changed.collecting q)
+  pub frozen : changed.frozen ≡ c.changed.frozen
+  pub locks_are : locks ≡ without_locks c.locks s
+  pub starts : active ≡ slice_set c.active s None
+  pub last_is : last.items ≡ slice_set c.last.items s (Some call.number)
+  pub most : records store ≤ stored.STORE_RECORDS
+  pub keys : KeepsSlots c.store store
+  pub aside_is : aside ≡ after_release c.aside
+
 module _ {A : Type 0} (c : Inside A) (ok : IsCore c) (s : ℕ) (call : OpenCall A) (is : call_at c s ≡ Some call) where
   abbrev opened : (o : Open) × (ok.world.calls s ≡ Some o) × IsOpen call o
   opened = some_open c ok s call is
@@ -154,16 +172,9 @@ module _ {A : Type 0} (c : Inside A) (ok : IsCore c) (s : ℕ) (call : OpenCall 
   after_answer log store locks changed calls active last aside = record c { log = log; store = store; locks = locks; changed = changed; calls = calls; active = active; last = last; aside = aside }
 
   module _ (log : Log) (store : Slots) (locks : Locks) (changed : ChangedSets) (calls : Vec (Option (OpenCall A)) A) (active : Starts) (last : Vec (Option ℕ) A) (aside : Aside)
-      (o : ℕ) (outcome : o ≡ call.machine.progress.outcome) (ends : is_nil call.machine.progress.rest ≡ true)
-      (log_is : log.records ≡ c.log.records ++ record_made o ∷ []) (calls_are : calls.items ≡ slice_set c.calls.items s None)
-      (versions : (q : Bytes) → versions_in store q ≡ cond (o == COMMITTED) (all_kept call.start c.phase (map noted_of call.notes.items) (versions_in c.store) q)
-      (all_undone (map noted_of call.notes.items) (versions_in c.store) q))
-      (collecting : (q : Bytes) → has changed.collecting q ≡ cond (o == COMMITTED) (is_some (first_noted (map noted_of call.notes.items) q) || has c.changed.collecting q) (has c.changed.collecting q))
-      (frozen : changed.frozen ≡ c.changed.frozen) (locks_are : locks ≡ without_locks c.locks s) (starts : active ≡ slice_set c.active s None)
-      (last_is : last.items ≡ slice_set c.last.items s (Some call.number)) (most : records store ≤ stored.STORE_RECORDS) (keys : KeepsSlots c.store store)
-      (aside_is : aside ≡ after_release c.aside) where
+      (o : ℕ) (a : IsAnswered c s call log store locks changed calls active last aside o) where
     ended_here : has_ended opened.0.machine ≡ true
-    ended_here = ap (λ (p : Progress). is_nil p.rest) opened.2.progress ∙ ends
+    ended_here = ap (λ (p : Progress). is_nil p.rest) opened.2.progress ∙ a.ends
 
     -- the table after the answer is small
     smaller :
@@ -171,11 +182,11 @@ module _ {A : Type 0} (c : Inside A) (ok : IsCore c) (s : ℕ) (call : OpenCall 
         ((q : Bytes) → w.versions q ≡ versions_in store q) → IsSmall c.catalog (table_of c.opening) log.records
     smaller w g e f h same versions =
         let after = runs_good (more ok.run g) (initial_good c.catalog (table_of c.opening)) in
-        let le = small_now w after (length calls.items) (beyond calls.items w.calls same) store versions most in
+        let le = small_now w after (length calls.items) (beyond calls.items w.calls same) store versions a.most in
         let is = now_as w c.catalog (table_of c.opening) log.records e f h in
-        subst (IsSmall c.catalog (table_of c.opening)) (sym log_is)
+        subst (IsSmall c.catalog (table_of c.opening)) (sym a.log_is)
         (small_more c.catalog (table_of c.opening) c.log.records (record_made o) ok.small
-        (subst (λ l. fin.len (table_after_all c.catalog (table_of c.opening) l) ≤ stored.STORE_RECORDS) log_is (subst (λ t. fin.len t ≤ stored.STORE_RECORDS) is le)))
+        (subst (λ l. fin.len (table_after_all c.catalog (table_of c.opening) l) ≤ stored.STORE_RECORDS) a.log_is (subst (λ t. fin.len t ≤ stored.STORE_RECORDS) is le)))
 
     committed_versions : (o == COMMITTED) ≡ true → (q : Bytes) → (commit ok.world s opened.0).versions q ≡ versions_in store q
     committed_versions so q =
@@ -185,25 +196,25 @@ module _ {A : Type 0} (c : Inside A) (ok : IsCore c) (s : ℕ) (call : OpenCall 
         ∙ sym (kept_by call.start c.phase (change_at opened.0.machine.changes q) (value_at (now ok.world) q) (versions_in c.store q))
         ∙ ap (λ x. kept_key call.start c.phase x (versions_in c.store q)) (sym (noted_as q))
         ∙ sym
-        (versions q ∙ ap (λ b. cond b (all_kept call.start c.phase (map noted_of call.notes.items) (versions_in c.store) q) (all_undone (map noted_of call.notes.items) (versions_in c.store) q)) so)
+        (a.versions q ∙ ap (λ b. cond b (all_kept call.start c.phase (map noted_of call.notes.items) (versions_in c.store) q) (all_undone (map noted_of call.notes.items) (versions_in c.store) q)) so)
 
     aborted_versions : (o == COMMITTED) ≡ false → (q : Bytes) → (abort ok.world s opened.0).versions q ≡ versions_in store q
     aborted_versions not_so q =
         ap (λ u. undone_key u (ok.world.versions q)) (opened.2.notes q) ∙ ap (undone_key (first_noted (map noted_of call.notes.items) q)) (ok.stands.versions q)
-        ∙ sym (versions q ∙ ap (λ b. cond b (all_kept call.start c.phase (map noted_of call.notes.items) (versions_in c.store) q) (all_undone (map noted_of call.notes.items) (versions_in c.store) q))
+        ∙ sym (a.versions q ∙ ap (λ b. cond b (all_kept call.start c.phase (map noted_of call.notes.items) (versions_in c.store) q) (all_undone (map noted_of call.notes.items) (versions_in c.store) q))
         not_so)
 
     commits_here : (o == COMMITTED) ≡ true → Goes ok.world (commit ok.world s opened.0)
-    commits_here so = Commits s opened.0 opened.1 ended_here (outcome_here ∙ sym outcome ∙ eqb-true o COMMITTED so)
+    commits_here so = Commits s opened.0 opened.1 ended_here (outcome_here ∙ sym a.outcome ∙ eqb-true o COMMITTED so)
 
     aborts_here : (o == COMMITTED) ≡ false → Goes ok.world (abort ok.world s opened.0)
-    aborts_here not_so = Aborts s opened.0 opened.1 ended_here (ap (λ n. n == 0) (outcome_here ∙ sym outcome) ∙ not_so)
+    aborts_here not_so = Aborts s opened.0 opened.1 ended_here (ap (λ n. n == 0) (outcome_here ∙ sym a.outcome) ∙ not_so)
 
     -- what was collected is
     collected_still : (q : Bytes) → either c.changed q ≡ true → either changed q ≡ true
     collected_still q is =
         by (o == COMMITTED) (is_some (first_noted (map noted_of call.notes.items) q)) (has c.changed.collecting q) (has c.changed.frozen q) (has changed.collecting q) (has changed.frozen q)
-        (collecting q) (ap (λ f. has f q) frozen) is
+        (a.collecting q) (ap (λ f. has f q) a.frozen) is
       where
         by : (so new col fro x y : Bool) → x ≡ cond so (new || col) col → y ≡ fro → (col || fro) ≡ true → (x || y) ≡ true
         by true true col fro x y e f h = ap (λ b. b || y) e
@@ -212,7 +223,7 @@ module _ {A : Type 0} (c : Inside A) (ok : IsCore c) (s : ℕ) (call : OpenCall 
 
     still_aside : AsideIn aside store (either changed) locks
     still_aside =
-        subst (λ a. AsideIn a store (either changed) locks) (sym aside_is) (aside_released c.aside c.store store (either c.changed) (either changed) c.locks locks keys collected_still ok.aside)
+        subst (λ x. AsideIn x store (either changed) locks) (sym a.aside_is) (aside_released c.aside c.store store (either c.changed) (either changed) c.locks locks a.keys collected_still ok.aside)
 
     -- the core stands for the state after the answer, whose versions and collected keys are these
     abbrev ended_state : VersionsByKey → (Bytes → Bool) → State
@@ -227,28 +238,28 @@ module _ {A : Type 0} (c : Inside A) (ok : IsCore c) (s : ℕ) (call : OpenCall 
       stands = record {
         catalog = ok.stands.catalog;
         opening = ok.stands.opening;
-        log = longer_log o outcome log.records log_is;
-        calls = closed_calls c ok s (within c ok s call is) calls.items calls_are;
+        log = longer_log o a.outcome log.records a.log_is;
+        calls = closed_calls c ok s (within c ok s call is) calls.items a.calls_are;
         versions = versions_are;
         collecting = gathered_are;
-        frozen = λ q. ok.stands.frozen q ∙ ap (λ f. has f q) (sym frozen);
-        locks = closed_locks c ok s (subst (λ n. s < n) (ok.sessions ∙ sym ok.tables) (within c ok s call is)) locks locks_are;
+        frozen = λ q. ok.stands.frozen q ∙ ap (λ f. has f q) (sym a.frozen);
+        locks = closed_locks c ok s (subst (λ n. s < n) (ok.sessions ∙ sym ok.tables) (within c ok s call is)) locks a.locks_are;
         phase = ok.stands.phase;
         checkpoint =
             tracked_on c.checkpoint c.store store c.changed.frozen changed.frozen ok.world.phase ok.world.number ok.world.finished ok.world.kind (length (before ok.world.number ok.world.log))
             (length (before ok.world.number (answer s opened.0 ∷ ok.world.log))) ok.world.visited ok.world.bound ok.world.given ok.world.images
-            keys frozen (ap length (before_answer ok.world.number s opened.0 ok.world.log)) ok.stands.checkpoint;
+            a.keys a.frozen (ap length (before_answer ok.world.number s opened.0 ok.world.log)) ok.stands.checkpoint;
       };
       lawful = ok.lawful;
       opens = ok.opens;
       small =
-          smaller (ended_state vs gathered) goes ok.stands.catalog ok.stands.opening (longer_log o outcome log.records log_is)
-          (closed_calls c ok s (within c ok s call is) calls.items calls_are) versions_are;
-      sessions = ap length calls_are ∙ length-set c.calls.items s None ∙ ok.sessions;
-      tables = ap length locks_are ∙ length-set c.locks s _ ∙ ok.tables;
-      starts = closed_starts c ok s calls.items active calls_are starts;
-      numbers = ap length last_is ∙ length-set c.last.items s _ ∙ ok.numbers;
-      last = longer_last o log.records last.items log_is last_is;
+          smaller (ended_state vs gathered) goes ok.stands.catalog ok.stands.opening (longer_log o a.outcome log.records a.log_is)
+          (closed_calls c ok s (within c ok s call is) calls.items a.calls_are) versions_are;
+      sessions = ap length a.calls_are ∙ length-set c.calls.items s None ∙ ok.sessions;
+      tables = ap length a.locks_are ∙ length-set c.locks s _ ∙ ok.tables;
+      starts = closed_starts c ok s calls.items active a.calls_are a.starts;
+      numbers = ap length a.last_is ∙ length-set c.last.items s _ ∙ ok.numbers;
+      last = longer_last o log.records last.items a.log_is a.last_is;
       aside = still_aside;
     }
 
@@ -258,7 +269,7 @@ module _ {A : Type 0} (c : Inside A) (ok : IsCore c) (s : ℕ) (call : OpenCall 
         gathered_by :
             (q : Bytes) (b : Bool) → (o == COMMITTED) ≡ b →
             has changed.collecting q ≡ cond b (is_some (first_noted (map noted_of call.notes.items) q) || has c.changed.collecting q) (has c.changed.collecting q)
-        gathered_by q b e = collecting q ∙ ap (λ b. cond b (is_some (first_noted (map noted_of call.notes.items) q) || has c.changed.collecting q) (has c.changed.collecting q)) e
+        gathered_by q b e = a.collecting q ∙ ap (λ b. cond b (is_some (first_noted (map noted_of call.notes.items) q) || has c.changed.collecting q) (has c.changed.collecting q)) e
 
         by : (b : Bool) → (o == COMMITTED) ≡ b → IsCore (after_answer log store locks changed calls active last aside)
         by true e = ended_core (commit ok.world s opened.0).versions (commit ok.world s opened.0).collecting (commits_here e) (committed_versions e) (λ q.
@@ -272,16 +283,16 @@ module _ {A : Type 0} (c : Inside A) (ok : IsCore c) (s : ℕ) (call : OpenCall 
         subst (λ (w : CoreView). Finishes w (view_of (after_answer log store locks changed calls active last aside)) s u) same
         (subst (λ (x : Underway). Finishes (view_of c) (view_of (after_answer log store locks changed calls active last aside)) s x) which
         (record {
-          same = record { catalog = refl; opening = refl; checkpoint = refl; calls = ap (map (option_map underway)) calls_are ∙ map-set (option_map underway) c.calls.items s None };
-          log = log_is ∙ ap (λ (n : ℕ). c.log.records ++ Call s call.number call.procedure call.machine.args n call.machine.progress.replies ∷ []) outcome
+          same = record { catalog = refl; opening = refl; checkpoint = refl; calls = ap (map (option_map underway)) a.calls_are ∙ map-set (option_map underway) c.calls.items s None };
+          log = a.log_is ∙ ap (λ (n : ℕ). c.log.records ++ Call s call.number call.procedure call.machine.args n call.machine.progress.replies ∷ []) a.outcome
               ∙ ap (λ (p : Progress). c.log.records ++ Call s call.number call.procedure call.machine.args p.outcome p.replies ∷ []) progress_here;
           slots = slots;
           keys = keys;
           versions = λ q.
-              versions q
+              a.versions q
               ∙ ap
               (λ n. cond (n == COMMITTED) (all_kept call.start c.phase (map noted_of call.notes.items) (versions_in c.store) q) (all_undone (map noted_of call.notes.items) (versions_in c.store) q))
-              (outcome ∙ ap (λ (p : Progress). p.outcome) progress_here)
+              (a.outcome ∙ ap (λ (p : Progress). p.outcome) progress_here)
               ∙ ap (λ x. cond ((front_of (view_of c) (underway call)).outcome == COMMITTED) (kept_key call.start c.phase x (versions_in c.store q)) (undone_key x (versions_in c.store q)))
               (notes_are c ok s call is calls store locks active aside q)
               ∙ ap (λ p. cond ((front_of (view_of c) (underway call)).outcome == COMMITTED) (kept_key call.start p (replaced (view_of c) (underway call) q) (versions_in c.store q))

@@ -14,11 +14,13 @@ use Rattle.steps.specs.Refusals.{Answers}
 use Rattle.steps.specs.declared.calls.OpenCall.{OpenCall}
 use Rattle.steps.specs.declared.errors.FinishError.TheVariants as refused
 use Rattle.steps.proofs.machine.OpenCalls.{same_Some}
-use Rattle.steps.proofs.sessions.AnsweredCall.{finish_core, finish_view, in_range}
+use Rattle.steps.proofs.sessions.AnsweredCall.{IsAnswered, finish_core, finish_view, in_range}
 use Rattle.steps.proofs.sessions.EndedCall.{within}
 use Rattle.steps.proofs.sessions.CallProgress.{other_rooms, ready, roomy_core}
 use Rattle.steps.proofs.sessions.FoundCalls.{absent_refusal, found_at, found_refusal}
+use Rattle.steps.proofs.cores.Core.finish_in_log.Given.{Over}
 use Rattle.steps.proofs.cores.Core.finish_in_log.Goals as goal
+use Rattle.steps.proofs.cores.Core.finish_in_log.Goals.{After-clear}
 
 -- the call that was looked up is the one that is taken
 same_call :
@@ -51,48 +53,44 @@ index_mut-requires g c =
     let lt : c.from-index.result < length c.self.inside.calls.items = within c.self.inside c.self.invariant c.from-index.result c.in-Some-taken.call (sym c.in-Some-taken.ensures.value) in
     subst (λ n. c.from-index.result < n) (c.self.invariant.sessions ∙ sym (c.self.inside.last.ok.0 ∙ c.self.invariant.numbers)) lt
 
+-- the call that is answered is the one that was open
+taken_open : (g : Over) (c : After-clear g) → call_at c.self.inside c.args.session ≡ Some c.in-Some-taken.call
+taken_open g c = ap (call_at c.self.inside) (sym c.from-index.ensures) ∙ sym c.in-Some-taken.ensures.value
+
+-- what its answer makes of the parts of the core
+answered : (g : Over) (c : After-clear g) → IsAnswered c.self.inside c.args.session c.in-Some-taken.call c.end_call-notes.new.log c.end_call-notes.new.store c.release_all.new.self
+    c.end_call-notes.new.changed c.taken.new.kept c.clear.new.self (with_item c.self.inside.last c.from-index.result (Some c.in-Some-taken.call.number)) c.after_release-self-inside.result c.in_ok-outcome.outcome
+answered g c =
+    let one = same_call c.in-Some.call.now c.in-Some-taken.call c.from-index.result c.in-Some.ensures c.as_slice.ensures.value c.in-Some-taken.ensures.value in
+    let done = ready c.in-Some.call.now.machine.progress c.is_full.result (sym c.in_ok-outcome.ensures.refusal) in
+    record {
+      outcome = c.in_ok-outcome.ensures.outcome ∙ ap (λ (k : OpenCall g.row.A.Denot). k.machine.progress.outcome) one;
+      ends = ap (λ (k : OpenCall g.row.A.Denot). is_nil k.machine.progress.rest) (sym one) ∙ done.0;
+      log_is = c.end_call-notes.ensures.log ∙ ap (λ (l : List Record). l ++ Call c.args.session c.in-Some-taken.call.number c.in-Some-taken.call.procedure c.in-Some-taken.call.machine.args
+          c.in_ok-outcome.outcome c.in-Some-taken.call.machine.progress.replies ∷ []) c.make_room.ensures.records;
+      calls_are = c.in-Some-taken.ensures.some ∙ ap (λ i. slice_set c.self.inside.calls.items i None) c.from-index.ensures;
+      versions = c.end_call-notes.ensures.versions;
+      collecting = λ (q : Bytes). c.end_call-notes.ensures.collecting q ∙ ap (λ (k : KeySet). cond (c.in_ok-outcome.outcome == COMMITTED)
+          (is_some (first_noted (map noted_of c.in-Some-taken.call.notes.items) q) || has k q) (has k q)) c.make_room.ensures.collecting;
+      frozen = c.end_call-notes.ensures.frozen ∙ c.make_room.ensures.frozen;
+      locks_are = c.release_all.ensures ∙ ap (without_locks c.self.inside.locks) c.from-index.ensures;
+      starts = c.clear.ensures ∙ ap (λ i. slice_set c.self.inside.active i None) c.from-index.ensures;
+      last_is = ap (λ i. slice_set c.self.inside.last.items i (Some c.in-Some-taken.call.number)) c.from-index.ensures;
+      most = c.end_call-notes.ensures.most;
+      keys = c.end_call-notes.ensures.keys;
+      aside_is = c.after_release-self-inside.ensures;
+    }
+
 pub invariant_of-self-in-Some-taken : goal.invariant_of-self-in-Some-taken
 invariant_of-self-in-Some-taken g c =
-    let is : call_at c.self.inside c.args.session ≡ Some c.in-Some-taken.call = ap (call_at c.self.inside) (sym c.from-index.ensures) ∙ sym c.in-Some-taken.ensures.value in
-    let one = same_call c.in-Some.call.now c.in-Some-taken.call c.from-index.result c.in-Some.ensures c.as_slice.ensures.value c.in-Some-taken.ensures.value in
-    let outcome = c.in_ok-outcome.ensures.outcome ∙ ap (λ (k : OpenCall g.row.A.Denot). k.machine.progress.outcome) one in
-    let done = ready c.in-Some.call.now.machine.progress c.is_full.result (sym c.in_ok-outcome.ensures.refusal) in
-    let ends = ap (λ (k : OpenCall g.row.A.Denot). is_nil k.machine.progress.rest) (sym one) ∙ done.0 in
-    let log_is = c.end_call-notes.ensures.log ∙ ap (λ (l : List Record). l ++ Call c.args.session c.in-Some-taken.call.number c.in-Some-taken.call.procedure c.in-Some-taken.call.machine.args c.in_ok-outcome.outcome
-    c.in-Some-taken.call.machine.progress.replies ∷ []) c.make_room.ensures.records in
-    let calls_are = c.in-Some-taken.ensures.some ∙ ap (λ i. slice_set c.self.inside.calls.items i None) c.from-index.ensures in
-    let collecting = λ (q : Bytes). c.end_call-notes.ensures.collecting q ∙ ap (λ (k : KeySet). cond (c.in_ok-outcome.outcome == COMMITTED)
-    (is_some (first_noted (map noted_of c.in-Some-taken.call.notes.items) q) || has k q) (has k q)) c.make_room.ensures.collecting in
-    let frozen = c.end_call-notes.ensures.frozen ∙ c.make_room.ensures.frozen in
-    let locks_are = c.release_all.ensures ∙ ap (without_locks c.self.inside.locks) c.from-index.ensures in
-    let starts = c.clear.ensures ∙ ap (λ i. slice_set c.self.inside.active i None) c.from-index.ensures in
-    let last_is = ap (λ i. slice_set c.self.inside.last.items i (Some c.in-Some-taken.call.number)) c.from-index.ensures in
-    let last = with_item c.self.inside.last c.from-index.result (Some c.in-Some-taken.call.number) in
-    other_rooms _
-    (finish_core c.self.inside c.self.invariant c.args.session c.in-Some-taken.call is c.end_call-notes.new.log c.end_call-notes.new.store c.release_all.new.self c.end_call-notes.new.changed c.taken.new.kept c.clear.new.self
-    last c.after_release-self-inside.result c.in_ok-outcome.outcome outcome ends log_is calls_are c.end_call-notes.ensures.versions collecting frozen locks_are starts last_is c.end_call-notes.ensures.most
-    c.end_call-notes.ensures.keys c.after_release-self-inside.ensures) c.keep_room.new.rooms
+    let at = (goal.at.invariant_of-self-in-Some-taken g c).After-clear in
+    other_rooms _ (finish_core c.self.inside c.self.invariant c.args.session c.in-Some-taken.call (taken_open g at) _ _ _ _ _ _ _ _ _ (answered g at)) c.keep_room.new.rooms
 
 pub returns-in-Some-taken-clause-finished : goal.returns-in-Some-taken-clause-finished
 returns-in-Some-taken-clause-finished g c =
-    let is : call_at c.self.inside c.args.session ≡ Some c.in-Some-taken.call = ap (call_at c.self.inside) (sym c.from-index.ensures) ∙ sym c.in-Some-taken.ensures.value in
-    let one = same_call c.in-Some.call.now c.in-Some-taken.call c.from-index.result c.in-Some.ensures c.as_slice.ensures.value c.in-Some-taken.ensures.value in
-    let outcome = c.in_ok-outcome.ensures.outcome ∙ ap (λ (k : OpenCall g.row.A.Denot). k.machine.progress.outcome) one in
-    let done = ready c.in-Some.call.now.machine.progress c.is_full.result (sym c.in_ok-outcome.ensures.refusal) in
-    let ends = ap (λ (k : OpenCall g.row.A.Denot). is_nil k.machine.progress.rest) (sym one) ∙ done.0 in
-    let log_is = c.end_call-notes.ensures.log ∙ ap (λ (l : List Record). l ++ Call c.args.session c.in-Some-taken.call.number c.in-Some-taken.call.procedure c.in-Some-taken.call.machine.args c.in_ok-outcome.outcome
-    c.in-Some-taken.call.machine.progress.replies ∷ []) c.make_room.ensures.records in
-    let calls_are = c.in-Some-taken.ensures.some ∙ ap (λ i. slice_set c.self.inside.calls.items i None) c.from-index.ensures in
-    let collecting = λ (q : Bytes). c.end_call-notes.ensures.collecting q ∙ ap (λ (k : KeySet). cond (c.in_ok-outcome.outcome == COMMITTED)
-    (is_some (first_noted (map noted_of c.in-Some-taken.call.notes.items) q) || has k q) (has k q)) c.make_room.ensures.collecting in
-    let frozen = c.end_call-notes.ensures.frozen ∙ c.make_room.ensures.frozen in
-    let locks_are = c.release_all.ensures ∙ ap (without_locks c.self.inside.locks) c.from-index.ensures in
-    let starts = c.clear.ensures ∙ ap (λ i. slice_set c.self.inside.active i None) c.from-index.ensures in
-    let last_is = ap (λ i. slice_set c.self.inside.last.items i (Some c.in-Some-taken.call.number)) c.from-index.ensures in
-    let last = with_item c.self.inside.last c.from-index.result (Some c.in-Some-taken.call.number) in
-    finish_view c.self.inside c.self.invariant c.args.session c.in-Some-taken.call is c.end_call-notes.new.log c.end_call-notes.new.store c.release_all.new.self c.end_call-notes.new.changed c.taken.new.kept c.clear.new.self
-    last c.after_release-self-inside.result c.in_ok-outcome.outcome outcome ends log_is calls_are c.end_call-notes.ensures.versions collecting frozen locks_are starts last_is c.end_call-notes.ensures.most
-    c.end_call-notes.ensures.keys c.after_release-self-inside.ensures c.end_call-notes.ensures.slots c.end_call-notes.ensures.same c.args.self.now c.self.view_is
+    let at = (goal.at.returns-in-Some-taken-clause-finished g c).After-clear in
+    finish_view c.self.inside c.self.invariant c.args.session c.in-Some-taken.call (taken_open g at) _ _ _ _ _ _ _ _ _ (answered g at)
+    c.end_call-notes.ensures.slots c.end_call-notes.ensures.same c.args.self.now c.self.view_is
 
 pub returns-in_default-clause-refusal : goal.returns-in_default-clause-refusal
 returns-in_default-clause-refusal g c =
