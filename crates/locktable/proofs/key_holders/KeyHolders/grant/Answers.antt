@@ -10,7 +10,7 @@ use Rattle.locktable.specs.declared.holders.Holders.{Holders}
 use Rattle.locktable.specs.Locks.{with_entry}
 use Rattle.locktable.specs.Holders.{ChangesTo, Refuses, mode_among}
 use Rattle.locktable.specs.Modes.{stronger}
-use Rattle.locktable.specs.Tables.{with_key}
+use Rattle.locktable.specs.Tables.{SetsMode, with_key}
 use Rattle.procedure.proofs.Maps.{get-view, map_of}
 use Rattle.locktable.proofs.Lookups.{index-with_entry, with_entry_same}
 use Rattle.locktable.proofs.Setting.{granted_is_held, nobody_holds, nobody_refuses, not_conflict, sets_mode}
@@ -22,6 +22,14 @@ use Rattle.locktable.proofs.key_holders.KeyHolders.grant.Goals.{After-into_mut, 
 set_so : (g : Over) (c : In-Ok g) (after : Holders) → map_of (map_with_value c.in-Ok.entry after).entries ≡ with_entry c.args.self.now c.args.key.now (Some after)
 set_so g c after =
     index-with_entry c.self.inside.entries.entries _ c.args.key.now (Some after) (c.in-Ok.ensures.update.0 after).0 ∙ ap (λ (m : KeyMap Holders). with_entry m c.args.key.now (Some after)) c.self.view_is
+
+-- the key is granted, where it is set and changes so
+granted_so :
+    (g : Over) (c : In-Ok g) (after : Holders) (table : KeyMap Holders) → table ≡ map_of (map_with_value c.in-Ok.entry after).entries →
+    ChangesTo (get c.args.self.now c.args.key.now) (Some after) c.args.session (Some (stronger (mode_among (get c.args.self.now c.args.key.now) c.args.session) c.args.mode)) →
+    SetsMode c.args.self.now table c.args.session c.args.key.now (Some (stronger (mode_among (get c.args.self.now c.args.key.now) c.args.session) c.args.mode))
+granted_so g c after table written changes =
+    sets_mode c.args.self.now table c.args.session c.args.key.now _ (Some after) (written ∙ set_so g c after) changes (granted_is_held _ after c.args.session _ changes)
 
 -- an occupied entry: the key has holders
 had : (g : Over) (c : After-into_mut g) → get c.args.self.now c.args.key.now ≡ Some c.into_mut.result.now
@@ -52,17 +60,13 @@ returns-in-Occupied-clause-before g c =
 pub returns-in-Occupied-clause-granted : goal.returns-in-Occupied-clause-granted
 returns-in-Occupied-clause-granted g c =
     let at = goal.at.returns-in-Occupied-clause-granted g c in
-    let k = c.args.key.now in
-    let s = c.args.session in
-    let before = c.args.self.now in
     let after = c.join.new.holders in
     let same : c.self-in-Occupied-2-1.given.0 ≡ map_with_value (Occupied c.in-Occupied.entry) after = search rules in
     let written = same ∙ sym (ap (λ e. map_with_value e after) c.in-Occupied.is) in
     if_done
     (λ changes.
-    let granted = subst (λ o. ChangesTo o (Some after) s (Some (stronger (mode_among o s) c.args.mode))) (sym (had g at.After-into_mut)) changes in
-    sets_mode before _ s k (Some (stronger (mode_among (get before k) s) c.args.mode)) (Some after)
-    (ap (λ m. map_of m.entries) written ∙ set_so g at.In-Ok after) granted (granted_is_held _ after s _ granted))
+    granted_so g at.In-Ok after _ (ap (λ m. map_of m.entries) written)
+    (subst (λ o. ChangesTo o (Some after) c.args.session (Some (stronger (mode_among o c.args.session) c.args.mode))) (sym (had g at.After-into_mut)) changes))
     c.join.result c.join.ensures.granted
 
 pub returns-in-Occupied-clause-own : goal.returns-in-Occupied-clause-own
@@ -108,15 +112,10 @@ returns-clause-before g c =
 pub returns-clause-granted : goal.returns-clause-granted
 returns-clause-granted g c =
     let at = goal.at.returns-clause-granted g c in
-    let k = c.args.key.now in
-    let s = c.args.session in
-    let before = c.args.self.now in
     let after = c.one.result in
     let same : c.self-3-1.given.0 ≡ map_with_value (Vacant c.in-Vacant.entry) after = search rules in
-    let written = same ∙ sym (ap (λ e. map_with_value e after) c.in-Vacant.is) in
-    let granted = subst (λ o. ChangesTo o (Some after) s (Some (stronger (mode_among o s) c.args.mode))) (sym (none g at.In-Vacant)) c.one.ensures in
-    sets_mode before _ s k (Some (stronger (mode_among (get before k) s) c.args.mode)) (Some after)
-    (ap (λ m. map_of m.entries) written ∙ set_so g at.In-Ok after) granted (granted_is_held _ after s _ granted)
+    granted_so g at.In-Ok after _ (ap (λ m. map_of m.entries) (same ∙ sym (ap (λ e. map_with_value e after) c.in-Vacant.is)))
+    (subst (λ o. ChangesTo o (Some after) c.args.session (Some (stronger (mode_among o c.args.session) c.args.mode))) (sym (none g at.In-Vacant)) c.one.ensures)
 
 pub returns-clause-own : goal.returns-clause-own
 returns-clause-own g c =
