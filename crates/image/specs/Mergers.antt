@@ -1,8 +1,10 @@
 -- Images of a chain that come one after another: what is kept of them, and what they are as one.
-use Rattle.std.specs.Prelude.{ℕ, ◌+◌, min, List, [], ◌∷◌, length, None, Some, Ok, Err}
+use Rattle.std.specs.Prelude.{ℕ, ◌+◌, min, List, [], ◌∷◌, length, None, Some, Ok, Err, refl}
+use Rattle.std.specs.Coded.{Coded, code_by, coded×, coded_ℕ}
 use Rattle.std.specs.declared.result.Result.{Result}
 use Rattle.procedure.specs.Table.{Table, merged, no_table}
 use Rattle.image.specs.Images.{Image, changes_of}
+use Rattle.image.specs.Tables.{table_code}
 use Rattle.image.specs.Merges.{Refusal, chain_refusal, last_of, merged_image, refusal_of, table_of, table_with_images}
 use Rattle.image.specs.declared.limits.TheConstants.{IMAGES}
 use Rattle.image.specs.declared.merges.MergeError.{MergeError}
@@ -13,6 +15,10 @@ pub record Chain : Type 0 where
   pub number : ℕ
   pub place : ℕ
   pub table : Table
+
+abbrev pub chain_code : Coded Chain
+chain_code =
+    code_by (ℕ × (ℕ × Table)) (coded× coded_ℕ (coded× coded_ℕ table_code)) (λ c. (c.number, (c.place, c.table))) (λ p. record { number = p.0; place = p.1.0; table = p.1.1 }) (λ _. refl)
 
 -- how many images have come, up to as many as a chain has, and the chain that they are, or why they are none
 pub record Merging : Type 0 where

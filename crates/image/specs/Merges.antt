@@ -1,5 +1,5 @@
 -- The merge of a chain: a full image, and partial ones in turn, each on the one before.
-use Rattle.std.specs.Prelude.{◌≡◌, ◌⊎◌, ℕ, ◌+◌, ◌==◌, Bool, true, false, nat_lt, nat_le, List, [], ◌∷◌, length, Option, Some, None, Ok, Err}
+use Rattle.std.specs.Prelude.{◌≡◌, ◌⊎◌, ℕ, ◌+◌, ◌==◌, Bool, true, false, not, nat_lt, nat_le, List, [], ◌∷◌, length, Option, Some, None, Ok, Err}
 use Rattle.std.specs.declared.result.Result.{Result}
 use Rattle.std.specs.Option.{option_or}
 use Rattle.std.specs.FinMap as finite
@@ -51,8 +51,7 @@ is_full Full = true
 is_full Partial = false
 
 abbrev pub is_partial : Kind → Bool
-is_partial Full = false
-is_partial Partial = true
+is_partial k = not (is_full k)
 
 -- the first place from i on at which images that follow a number aren't partial, or don't stand on the one before
 abbrev pub links_refusal : ℕ → ℕ → List Image → Refusal

@@ -27,13 +27,11 @@ struct Chain<A: Allocator> {
 }
 
 impl<A: Allocator> Model for Chain<A> {
-    ghost use Rattle.std.specs.Coded.{codes};
-    ghost use Rattle.image.specs.Mergers.{Chain};
-    ghost use Rattle.image.specs.Tables.{table_code};
+    ghost use Rattle.image.specs.Mergers.{Chain, chain_code};
 
     ghost Value = { Chain };
 
-    ghost coded = { Prim.hlevel (codes, table_code) };
+    ghost coded = { chain_code };
 
     ghost view = { λ c. record { number = c.number; place = c.place; table = c.table } };
 }
@@ -49,12 +47,11 @@ pub struct Merger<A: Allocator> {
 
 impl<A: Allocator> Model for Merger<A> {
     ghost use Rattle.std.specs.Coded.{codes};
-    ghost use Rattle.image.specs.Mergers.{Merging};
-    ghost use Rattle.image.specs.Tables.{table_code};
+    ghost use Rattle.image.specs.Mergers.{Merging, chain_code};
 
     ghost Value = { Merging };
 
-    ghost coded = { Prim.hlevel (codes, table_code) };
+    ghost coded = { Prim.hlevel (codes, chain_code) };
 
     ghost view = { λ m. record { count = m.count; chain = m.chain } };
 }
