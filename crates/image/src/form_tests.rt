@@ -42,60 +42,48 @@ fn in_both(
     Ok((first(alloc, head, entries)?, second(alloc, head, entries)?))
 }
 
-/// The kind, the base and the count; the entries; why that isn't an image, in both versions. The second
-/// of the rows is what those after it are an altered form of.
-const FORMS: [([u8; 3], &[u8], Option<ReadError>); 11] = [
-    ([1, 0, 1], b"\x01a\0", None),
-    ([0, 1, 2], b"\x01a\x01\0\0\x01b\x01\0\0", None),
-    (
-        [2, 1, 2],
-        b"\x01a\x01\0\0\x01b\x01\0\0",
-        Some(ReadError::BadForm),
-    ),
-    (
-        [0, 0, 2],
-        b"\x01a\x01\0\0\x01b\x01\0\0",
-        Some(ReadError::BadForm),
-    ),
-    (
-        [1, 1, 2],
-        b"\x01a\x01\0\0\x01b\x01\0\0",
-        Some(ReadError::BadForm),
-    ),
-    (
-        [0, 1, 2],
-        b"\x01b\x01\0\0\x01a\x01\0\0",
-        Some(ReadError::BadForm),
-    ),
-    (
-        [0, 1, 2],
-        b"\x01a\x01\0\0\x01a\x01\0\0",
-        Some(ReadError::BadForm),
-    ),
-    ([0, 1, 2], b"\x01a\x01\0\0\x01b\0", Some(ReadError::BadForm)),
-    (
-        [0, 1, 2],
-        b"\0\x01\0\0\x01b\x01\0\0",
-        Some(ReadError::BadForm),
-    ),
-    (
-        [0, 1, 1],
-        b"\x20aaaaaaaabbbbbbbbccccccccdddddddd\x01\0\0",
-        None,
-    ),
-    (
-        [0, 1, 1],
-        b"\x21aaaaaaaabbbbbbbbccccccccdddddddde\x01\0\0",
-        Some(ReadError::BadForm),
-    ),
+/// A kind, a base and a count, and entries.
+type Form = ([u8; 3], &'static [u8]);
+
+/// Which are images, in both versions.
+const READ: [Form; 3] = [
+    ([1, 0, 1], b"\x01a\0"),
+    ([0, 1, 2], b"\x01a\x01\0\0\x01b\x01\0\0"),
+    ([0, 1, 1], b"\x20aaaaaaaabbbbbbbbccccccccdddddddd\x01\0\0"),
 ];
+
+/// And which have another form, in both. All but the last are altered from the second of those that are read.
+const BAD_FORMS: [Form; 8] = [
+    ([2, 1, 2], b"\x01a\x01\0\0\x01b\x01\0\0"),
+    ([0, 0, 2], b"\x01a\x01\0\0\x01b\x01\0\0"),
+    ([1, 1, 2], b"\x01a\x01\0\0\x01b\x01\0\0"),
+    ([0, 1, 2], b"\x01b\x01\0\0\x01a\x01\0\0"),
+    ([0, 1, 2], b"\x01a\x01\0\0\x01a\x01\0\0"),
+    ([0, 1, 2], b"\x01a\x01\0\0\x01b\0"),
+    ([0, 1, 2], b"\0\x01\0\0\x01b\x01\0\0"),
+    ([0, 1, 1], b"\x21aaaaaaaabbbbbbbbccccccccdddddddde\x01\0\0"),
+];
+
+/// The first row of these that is read, in one of the versions, in another way than this.
+fn read_otherwise(
+    alloc: Global,
+    rows: &[Form],
+    wanted: Option<ReadError>,
+) -> Result<Option<usize>, AllocError> {
+    for (place, (head, entries)) in rows.iter().enumerate() {
+        if in_both(alloc, *head, entries)? != (wanted, wanted) {
+            return Ok(Some(place));
+        }
+    }
+    Ok(None)
+}
 
 #[test]
 fn forms(rt: HostRuntime) -> Result<(), Fail> {
-    for (place, (head, entries, wanted)) in FORMS.iter().enumerate() {
-        let found = in_both(rt.alloc(), *head, entries)?;
-        assert_eq!(rt; found, (*wanted, *wanted), "row {place}");
-    }
+    let alloc = rt.alloc();
+    assert_eq!(rt; read_otherwise(alloc, &READ, None)?, None);
+    let bad_form = Some(ReadError::BadForm);
+    assert_eq!(rt; read_otherwise(alloc, &BAD_FORMS, bad_form)?, None);
     Ok(())
 }
 

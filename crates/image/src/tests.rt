@@ -4,6 +4,7 @@ use super::*;
 use crate::limits::{ENTRIES, IMAGES};
 use procedure::{Key, Sequence, Table, Value};
 use std::alloc::{AllocError, Global};
+use std::fmt;
 use std::process::Abort;
 use std::test::Fail;
 
@@ -90,19 +91,7 @@ pub(crate) fn full(
     place: u64,
     given: &[Given],
 ) -> Result<Image<Global>, Fail> {
-    let entries = entries(alloc, given)?;
-    Ok(Image::new(Kind::Full, number, number, place, entries).ok_or("not lawful")?)
-}
-
-pub(crate) fn partial(
-    alloc: Global,
-    number: u64,
-    base: u64,
-    place: u64,
-    given: &[Given],
-) -> Result<Image<Global>, Fail> {
-    let entries = entries(alloc, given)?;
-    Ok(Image::new(Kind::Partial, number, base, place, entries).ok_or("not lawful")?)
+    image_of(alloc, &(Kind::Full, number, number, place, given))
 }
 
 /// Whether these are the entries, in their order.
@@ -163,7 +152,7 @@ fn captured_in_any_order(rt: HostRuntime) -> Result<(), Fail> {
 fn looked_up(rt: HostRuntime) -> Result<(), Fail> {
     let alloc = rt.alloc();
     let given = [(b'b', Some(2)), (b'd', None), (b'f', Some(6))];
-    let image = partial(alloc, 4, 3, 9, &given)?;
+    let image = image_of(alloc, &(Kind::Partial, 4, 3, 9, &given))?;
     for letter in b'a'..=b'g' {
         let key = Key::new(&[letter]).ok_or("no key")?;
         let cell = image.get(&key);
@@ -194,21 +183,27 @@ fn opening(rt: HostRuntime) -> Result<(), Fail> {
 }
 
 /// Kind, number, base, place and entries of an image.
-pub(crate) type Parts = (Kind, u64, u64, u64, &'static [Given]);
+pub(crate) type Parts<'a> = (Kind, u64, u64, u64, &'a [Given]);
 
 /// Number, place and entries of a merged image.
 type Whole = (u64, u64, &'static [Given]);
 
 /// A full image. Of the partial ones that stand on it the second takes a key away, and the third changes
 /// one.
-pub(crate) const FIRST: Parts = (Kind::Full, 1, 1, 1, &[(b'a', Some(1)), (b'b', Some(2))]);
+pub(crate) const FIRST: Parts<'static> = (Kind::Full, 1, 1, 1, &[(b'a', Some(1)), (b'b', Some(2))]);
 
-pub(crate) const SECOND: Parts = (Kind::Partial, 2, 1, 5, &[(b'a', None), (b'c', Some(7))]);
+pub(crate) const SECOND: Parts<'static> = (
+    Kind::Partial,
+    2,
+    1,
+    5,
+    &[(b'a', None), (b'c', Some(7))],
+);
 
-pub(crate) const THIRD: Parts = (Kind::Partial, 3, 2, 9, &[(b'b', Some(9))]);
+pub(crate) const THIRD: Parts<'static> = (Kind::Partial, 3, 2, 9, &[(b'b', Some(9))]);
 
 /// Images in turn, and what they are as one: the first row has no image, the next three are chains.
-const IN_TURN: [(&[Parts], Result<Whole, MergeError>); 11] = [
+const IN_TURN: [(&[Parts<'static>], Result<Whole, MergeError>); 11] = [
     (&[], Err(MergeError::NotFull)),
     (&[FIRST], Ok((1, 1, &[(b'a', Some(1)), (b'b', Some(2))]))),
     (
@@ -331,7 +326,8 @@ fn images_in_turn(rt: HostRuntime) -> Result<(), Fail> {
 fn numbered(alloc: Global, partials: u64) -> Result<Vec<Image<Global>>, Fail> {
     let mut made = vec![in alloc; full(alloc, 0, 0, &[])?]?;
     for number in 1..=partials {
-        made.push(partial(alloc, number, number - 1, number, &[(b'a', Some(number))])?)?;
+        let given = [(b'a', Some(number))];
+        made.push(image_of(alloc, &(Kind::Partial, number, number - 1, number, &given))?)?;
     }
     Ok(made)
 }
@@ -487,6 +483,16 @@ pub(crate) fn says(made: Result<String<Global>, AllocError>, text: &str) -> bool
     }
 }
 
+/// The first of these texts that its refusal doesn't say.
+pub(crate) fn unsaid<'a, E: fmt::Display>(alloc: Global, rows: &[(E, &'a str)]) -> Option<&'a str> {
+    for (refusal, text) in rows {
+        if !says(refusal.to_string(alloc), text) {
+            return Some(*text);
+        }
+    }
+    None
+}
+
 #[test]
 fn texts(rt: HostRuntime) {
     let alloc = rt.alloc();
@@ -497,9 +503,10 @@ fn texts(rt: HostRuntime) {
         (MergeError::Gap(0), "gap 0"),
         (MergeError::NoMemory, "no memory"),
     ];
-    for (refusal, text) in &rows {
-        assert!(rt; says(refusal.to_string(alloc), text), "{text}");
-    }
-    assert!(rt; says(AssembleError::BadForm.to_string(alloc), "bad form"));
-    assert!(rt; says(OpeningError::TooMany.to_string(alloc), "too many"));
+    assert_eq!(rt; unsaid(alloc, &rows), None);
+    assert_eq!(rt;
+        unsaid(alloc, &[(AssembleError::BadForm, "bad form")]),
+        None
+    );
+    assert_eq!(rt; unsaid(alloc, &[(OpeningError::TooMany, "too many")]), None);
 }
