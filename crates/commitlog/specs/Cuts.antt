@@ -24,10 +24,7 @@ IsFinished l n = Stands (Token Complete n) l
 
 abbrev pub is_resolve : Phase → Bool
 is_resolve Resolve = true
-is_resolve Rest = false
-is_resolve Prepare = false
-is_resolve Capture = false
-is_resolve Complete = false
+is_resolve _ = false
 
 -- whether a record is the resolve token of checkpoint n
 abbrev pub resolves : ℕ → Record → Bool
