@@ -145,6 +145,16 @@ data Ran (c : List Procedure) (i : Image) (l : List Record) (e : Ending) (x : Re
   overflowed : (j : ℕ) → FailsAt (InOrderBut (Overflows c (table_of i))) c i l j → x ≡ Err refused.TooMany → Ran c i l e x
 
 module _ (c : List Procedure) (i : Image) (l : List Record) (e : Ending) where
+  -- the first fault is one, so that no two kinds of run are
+  disordered_or_diverged : (j k : ℕ) → FailsAt IsOutOfOrder c i l j → FailsAt (InOrderBut (Diverges c (table_of i))) c i l k → ⊥
+  disordered_or_diverged j k f g = one_fault l j k (disorder_fails c (table_of i)) (diverged_fails c (table_of i)) (disorder_or_diverged c (table_of i)) f g
+
+  disordered_or_overflowed : (j k : ℕ) → FailsAt IsOutOfOrder c i l j → FailsAt (InOrderBut (Overflows c (table_of i))) c i l k → ⊥
+  disordered_or_overflowed j k f g = one_fault l j k (disorder_fails c (table_of i)) (overflow_fails c (table_of i)) (disorder_or_overflow c (table_of i)) f g
+
+  diverged_or_overflowed : (j k : ℕ) → FailsAt (InOrderBut (Diverges c (table_of i))) c i l j → FailsAt (InOrderBut (Overflows c (table_of i))) c i l k → ⊥
+  diverged_or_overflowed j k f g = one_fault l j k (diverged_fails c (table_of i)) (overflow_fails c (table_of i)) (diverged_or_overflow c (table_of i)) f g
+
   one_run : (x y : Result Audited AuditError) → Ran c i l e x → Ran c i l e y → x ≡ y
   one_run x y (pass m p) (pass n q) = p ∙ sym q
   one_run x y (pass m p) (out_of_order k g q) = absurd (each_or_first (disorder_fails c (table_of i)) l k m g)
@@ -153,22 +163,16 @@ module _ (c : List Procedure) (i : Image) (l : List Record) (e : Ending) where
   one_run x y (out_of_order j f p) (pass n q) = absurd (each_or_first (disorder_fails c (table_of i)) l j n f)
   one_run x y (out_of_order j f p) (out_of_order k g q) =
       p ∙ ap (λ n. Err (refused.Disorder n)) (same_first l j k (disorder_fails c (table_of i)) (disorder_fails c (table_of i)) f g) ∙ sym q
-  one_run x y (out_of_order j f p) (diverged k g q) =
-      absurd (one_fault l j k (disorder_fails c (table_of i)) (diverged_fails c (table_of i)) (disorder_or_diverged c (table_of i)) f g)
-  one_run x y (out_of_order j f p) (overflowed k g q) =
-      absurd (one_fault l j k (disorder_fails c (table_of i)) (overflow_fails c (table_of i)) (disorder_or_overflow c (table_of i)) f g)
+  one_run x y (out_of_order j f p) (diverged k g q) = absurd (disordered_or_diverged j k f g)
+  one_run x y (out_of_order j f p) (overflowed k g q) = absurd (disordered_or_overflowed j k f g)
   one_run x y (diverged j f p) (pass n q) = absurd (each_or_first (diverged_fails c (table_of i)) l j n f)
-  one_run x y (diverged j f p) (out_of_order k g q) =
-      absurd (one_fault l k j (disorder_fails c (table_of i)) (diverged_fails c (table_of i)) (disorder_or_diverged c (table_of i)) g f)
+  one_run x y (diverged j f p) (out_of_order k g q) = absurd (disordered_or_diverged k j g f)
   one_run x y (diverged j f p) (diverged k g q) =
       p ∙ ap (λ n. Err (refused.Diverged n)) (same_first l j k (diverged_fails c (table_of i)) (diverged_fails c (table_of i)) f g) ∙ sym q
-  one_run x y (diverged j f p) (overflowed k g q) =
-      absurd (one_fault l j k (diverged_fails c (table_of i)) (overflow_fails c (table_of i)) (diverged_or_overflow c (table_of i)) f g)
+  one_run x y (diverged j f p) (overflowed k g q) = absurd (diverged_or_overflowed j k f g)
   one_run x y (overflowed j f p) (pass n q) = absurd (each_or_first (overflow_fails c (table_of i)) l j n f)
-  one_run x y (overflowed j f p) (out_of_order k g q) =
-      absurd (one_fault l k j (disorder_fails c (table_of i)) (overflow_fails c (table_of i)) (disorder_or_overflow c (table_of i)) g f)
-  one_run x y (overflowed j f p) (diverged k g q) =
-      absurd (one_fault l k j (diverged_fails c (table_of i)) (overflow_fails c (table_of i)) (diverged_or_overflow c (table_of i)) g f)
+  one_run x y (overflowed j f p) (out_of_order k g q) = absurd (disordered_or_overflowed k j g f)
+  one_run x y (overflowed j f p) (diverged k g q) = absurd (diverged_or_overflowed k j g f)
   one_run x y (overflowed j f p) (overflowed k g q) = p ∙ sym q
 
 -- the kinds of answer
