@@ -8,29 +8,23 @@ use Rattle.procedure.specs.Runs.{Front, next_need, need_at, advanced, advanced_a
 use Rattle.procedure.proofs.Base.{change_at-none, change_at-with}
 
 -- what one instruction does to each part
-reads-fed_at : (args : List Bytes) (m : Front) (found : Cell) (r : List Instruction) → (fed_at args m found r).reads ≡ reads_after (touch_at args m r) m.reads
-reads-fed_at args m found [] = refl
-reads-fed_at args m found (i ∷ is) = refl
+parts-fed_at : (args : List Bytes) (m : Front) (found : Cell) (r : List Instruction) → ((fed_at args m found r).reads ≡ reads_after (touch_at args m r) m.reads)
+    × ((fed_at args m found r).writes ≡ writes_after (touch_at args m r) m.writes)
+    × ((fed_at args m found r).changes ≡ changes_after (touch_at args m r) (becomes_at args m found r) m.changes)
+parts-fed_at args m found [] = (refl, refl, refl)
+parts-fed_at args m found (i ∷ is) = (refl, refl, refl)
 
 pub reads-fed : (args : List Bytes) (m : Front) (found : Cell) → (fed args m found).reads ≡ reads_after (next_touch args m) m.reads
 unfolding fed next_touch
-reads-fed args m found = reads-fed_at args m found m.rest
-
-writes-fed_at : (args : List Bytes) (m : Front) (found : Cell) (r : List Instruction) → (fed_at args m found r).writes ≡ writes_after (touch_at args m r) m.writes
-writes-fed_at args m found [] = refl
-writes-fed_at args m found (i ∷ is) = refl
+reads-fed args m found = (parts-fed_at args m found m.rest).0
 
 pub writes-fed : (args : List Bytes) (m : Front) (found : Cell) → (fed args m found).writes ≡ writes_after (next_touch args m) m.writes
 unfolding fed next_touch
-writes-fed args m found = writes-fed_at args m found m.rest
-
-changes-fed_at : (args : List Bytes) (m : Front) (found : Cell) (r : List Instruction) → (fed_at args m found r).changes ≡ changes_after (touch_at args m r) (becomes_at args m found r) m.changes
-changes-fed_at args m found [] = refl
-changes-fed_at args m found (i ∷ is) = refl
+writes-fed args m found = (parts-fed_at args m found m.rest).1
 
 pub changes-fed : (args : List Bytes) (m : Front) (found : Cell) → (fed args m found).changes ≡ changes_after (next_touch args m) (next_becomes args m found) m.changes
 unfolding fed next_touch next_becomes
-changes-fed args m found = changes-fed_at args m found m.rest
+changes-fed args m found = (parts-fed_at args m found m.rest).2
 
 -- the progress goes on by itself: this ties a machine to the run alone
 touch_of_need : (args : List Bytes) (f : Front) (r : List Instruction) → touch_at args f r ≡ touch_of (need_at args f.progress r)
