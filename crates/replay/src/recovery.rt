@@ -204,43 +204,19 @@ fn recover_log<A: Allocator + Copy>(
     run_again(&alloc, catalog, table, from, &log.records, torn)
 }
 
-/// What is recovered from images that were put together and a log.
-fn answer_to<A: Allocator + Copy>(
-    alloc: A,
-    catalog: &Catalog<A>,
-    image: Image<A>,
-    log_bytes: &[u8],
-) -> Result<Recovered<A>, RecoverError>
-    ensures answer { (images : List SpecImage) → chain_of images ≡ Ok image → IsRecovery catalog.now images log_bytes.now result ⊎ (result ≡ Err refused.NoMemory) }
-    ensures few { IfOk result (λ r. finite.len r.state ≤ ENTRIES) }
-{
-    let log = check_log(log_bytes)?;
-    recover_log(alloc, catalog, image, &log)
-}
-
+/// What is recovered from images that were put together, or weren't, and a log.
 fn answer<A: Allocator + Copy>(
     alloc: A,
     catalog: &Catalog<A>,
-    images: &[Image<A>],
+    chain: Result<Image<A>, RecoverError>,
     log_bytes: &[u8],
 ) -> Result<Recovered<A>, RecoverError>
-    ensures { IsRecovery catalog.now images.now log_bytes.now result ⊎ (result ≡ Err refused.NoMemory) }
-{
-    let image = chain_of(alloc.clone()?, images)?;
-    answer_to(alloc, catalog, image, log_bytes)
-}
-
-fn answer_in_turn<A: Allocator + Copy>(
-    alloc: A,
-    catalog: &Catalog<A>,
-    merger: Merger<A>,
-    log_bytes: &[u8],
-) -> Result<Recovered<A>, RecoverError>
-    ensures answer { (images : List SpecImage) → merger ≡ after images → IsRecovery catalog.now images log_bytes.now result ⊎ (result ≡ Err refused.NoMemory) }
+    ensures answer { (images : List SpecImage) → Chained images chain → IsRecovery catalog.now images log_bytes.now result ⊎ (result ≡ Err refused.NoMemory) }
     ensures few { IfOk result (λ r. finite.len r.state ≤ ENTRIES) }
 {
-    let image = chain_in_turn(alloc.clone()?, merger)?;
-    answer_to(alloc, catalog, image, log_bytes)
+    let image = chain?;
+    let log = check_log(log_bytes)?;
+    recover_log(alloc, catalog, image, &log)
 }
 
 /// The table after a log's whole records: images that stand on one another are put together, and the
@@ -266,7 +242,7 @@ pub fn recover<A: Allocator + Copy>(
     // There is no other answer.
     ensures only { (r : Result Recovery RecoverError) → IsRecovery catalog.now images.now log_bytes.now r → (result ≡ r) ⊎ (result ≡ Err refused.NoMemory) }
 {
-    answer(alloc, catalog, images, log_bytes)
+    answer(alloc, catalog, chain_of(alloc, images), log_bytes)
 }
 
 /// As `recover`, from images that came one after another, so that none of them is kept but in what the
@@ -287,5 +263,5 @@ pub fn recover_in_turn<A: Allocator + Copy>(
     // The table has room in an image.
     ensures few { IfOk result (λ r. finite.len r.state ≤ ENTRIES) }
 {
-    answer_in_turn(alloc, catalog, merger, log_bytes)
+    answer(alloc, catalog, chain_in_turn(alloc, merger), log_bytes)
 }
