@@ -188,6 +188,12 @@ module _ {A : Type 0} (c : Inside A) (ok : IsCore c) (s : ℕ) (call : OpenCall 
         (small_more c.catalog (table_of c.opening) c.log.records (record_made o) ok.small
         (subst (λ l. fin.len (table_after_all c.catalog (table_of c.opening) l) ≤ stored.STORE_RECORDS) a.log_is (subst (λ t. fin.len t ≤ stored.STORE_RECORDS) is le)))
 
+    -- what the writes of the call became, by whether it committed
+    settled_as : (b : Bool) → (o == COMMITTED) ≡ b → (q : Bytes) → versions_in store q ≡ cond b (all_kept call.start c.phase (map noted_of call.notes.items) (versions_in c.store) q)
+        (all_undone (map noted_of call.notes.items) (versions_in c.store) q)
+    settled_as b e q =
+        a.versions q ∙ ap (λ b. cond b (all_kept call.start c.phase (map noted_of call.notes.items) (versions_in c.store) q) (all_undone (map noted_of call.notes.items) (versions_in c.store) q)) e
+
     committed_versions : (o == COMMITTED) ≡ true → (q : Bytes) → (commit ok.world s opened.0).versions q ≡ versions_in store q
     committed_versions so q =
         ap (λ p. kept_key p ok.world.phase (change_at opened.0.machine.changes q) (ok.world.versions q)) opened.2.start
@@ -195,14 +201,12 @@ module _ {A : Type 0} (c : Inside A) (ok : IsCore c) (s : ℕ) (call : OpenCall 
         ∙ ap (kept_key call.start c.phase (change_at opened.0.machine.changes q)) (ok.stands.versions q)
         ∙ sym (kept_by call.start c.phase (change_at opened.0.machine.changes q) (value_at (now ok.world) q) (versions_in c.store q))
         ∙ ap (λ x. kept_key call.start c.phase x (versions_in c.store q)) (sym (noted_as q))
-        ∙ sym
-        (a.versions q ∙ ap (λ b. cond b (all_kept call.start c.phase (map noted_of call.notes.items) (versions_in c.store) q) (all_undone (map noted_of call.notes.items) (versions_in c.store) q)) so)
+        ∙ sym (settled_as true so q)
 
     aborted_versions : (o == COMMITTED) ≡ false → (q : Bytes) → (abort ok.world s opened.0).versions q ≡ versions_in store q
     aborted_versions not_so q =
         ap (λ u. undone_key u (ok.world.versions q)) (opened.2.notes q) ∙ ap (undone_key (first_noted (map noted_of call.notes.items) q)) (ok.stands.versions q)
-        ∙ sym (a.versions q ∙ ap (λ b. cond b (all_kept call.start c.phase (map noted_of call.notes.items) (versions_in c.store) q) (all_undone (map noted_of call.notes.items) (versions_in c.store) q))
-        not_so)
+        ∙ sym (settled_as false not_so q)
 
     commits_here : (o == COMMITTED) ≡ true → Goes ok.world (commit ok.world s opened.0)
     commits_here so = Commits s opened.0 opened.1 ended_here (outcome_here ∙ sym a.outcome ∙ eqb-true o COMMITTED so)
@@ -277,7 +281,8 @@ module _ {A : Type 0} (c : Inside A) (ok : IsCore c) (s : ℕ) (call : OpenCall 
             ∙ ap (λ b. b || has c.changed.collecting q) (sym (some_by (change_at opened.0.machine.changes q) (value_at (now ok.world) q)) ∙ ap is_some (sym (noted_as q))) ∙ sym (gathered_by q true e))
         by false e = ended_core (abort ok.world s opened.0).versions ok.world.collecting (aborts_here e) (aborted_versions e) (λ q. ok.stands.collecting q ∙ sym (gathered_by q false e))
 
-    pub finish_view : length store ≡ length c.store → SameKeys c.store store → (v : CoreView) → view_of c ≡ v → OfOpen v s (Finishes v (view_of (after_answer log store locks changed calls active last aside)) s)
+    pub finish_view : length store ≡ length c.store → SameKeys c.store store → (v : CoreView) → view_of c ≡ v →
+        OfOpen v s (Finishes v (view_of (after_answer log store locks changed calls active last aside)) s)
     finish_view slots keys v same u there =
         let which : underway call ≡ u = is_under c ok s call is calls store locks active aside u (ap (λ (w : CoreView). open_at w s) same ∙ there) in
         subst (λ (w : CoreView). Finishes w (view_of (after_answer log store locks changed calls active last aside)) s u) same

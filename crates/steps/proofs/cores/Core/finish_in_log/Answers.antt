@@ -58,8 +58,9 @@ taken_open : (g : Over) (c : After-clear g) → call_at c.self.inside c.args.ses
 taken_open g c = ap (call_at c.self.inside) (sym c.from-index.ensures) ∙ sym c.in-Some-taken.ensures.value
 
 -- what its answer makes of the parts of the core
-answered : (g : Over) (c : After-clear g) → IsAnswered c.self.inside c.args.session c.in-Some-taken.call c.end_call-notes.new.log c.end_call-notes.new.store c.release_all.new.self
-    c.end_call-notes.new.changed c.taken.new.kept c.clear.new.self (with_item c.self.inside.last c.from-index.result (Some c.in-Some-taken.call.number)) c.after_release-self-inside.result c.in_ok-outcome.outcome
+answered : (g : Over) (c : After-clear g) → IsAnswered c.self.inside c.args.session c.in-Some-taken.call
+    c.end_call-notes.new.log c.end_call-notes.new.store c.release_all.new.self c.end_call-notes.new.changed c.taken.new.kept c.clear.new.self
+    (with_item c.self.inside.last c.from-index.result (Some c.in-Some-taken.call.number)) c.after_release-self-inside.result c.in_ok-outcome.outcome
 answered g c =
     let one = same_call c.in-Some.call.now c.in-Some-taken.call c.from-index.result c.in-Some.ensures c.as_slice.ensures.value c.in-Some-taken.ensures.value in
     let done = ready c.in-Some.call.now.machine.progress c.is_full.result (sym c.in_ok-outcome.ensures.refusal) in
