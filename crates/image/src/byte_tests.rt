@@ -1,7 +1,7 @@
 //! Tests of the bytes of images: worked examples made by another program, and texts that are cut or
 //! altered.
 use super::*;
-use crate::tests::{FIRST, Given, Parts, SECOND, THIRD, are, full, image_of, is_full, unsaid};
+use crate::tests::{FIRST, Given, Parts, SECOND, THIRD, are, full, image_of, is_full};
 use procedure::{Key, NoMemory, Value};
 use sha2::{Digest, Sha256};
 use std::alloc::{AllocError, Global};
@@ -387,18 +387,4 @@ fn mixed_versions(rt: HostRuntime) -> Result<(), Fail> {
     assert!(rt; first_has(images, &[(b'a', None), (b'c', Some(7))]));
     assert_eq!(rt; mixed_length(alloc, images)?, (true, 95));
     Ok(())
-}
-
-#[test]
-fn read_texts(rt: HostRuntime) {
-    let alloc = rt.alloc();
-    let rows = [
-        (ReadError::NotAnImage, "not an image"),
-        (ReadError::BadDigest, "bad digest"),
-        (ReadError::BadBlock(12), "bad block 12"),
-        (ReadError::BadForm, "bad form"),
-        (ReadError::NoMemory, "no memory"),
-    ];
-    assert_eq!(rt; unsaid(alloc, &rows), None);
-    assert_eq!(rt; unsaid(alloc, &[(SealError::TooLarge, "too large")]), None);
 }

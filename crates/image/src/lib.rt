@@ -31,6 +31,8 @@ mod stream_tests;
 pub mod streams;
 #[cfg(test)]
 mod tests;
+#[cfg(test)]
+mod text_tests;
 
 pub use checking::{CheckedImage, check_image};
 pub use entries::Entry;

@@ -2,7 +2,7 @@
 //! take or give few bytes a call.
 use super::*;
 use crate::byte_tests::{FIRST_ROW, SECOND_ROW, SUM_OF_65, counted, row, sealed, valued};
-use crate::tests::{is_full, says};
+use crate::tests::is_full;
 use sha2::{Digest, Sha256};
 use std::alloc::Global;
 use std::io::{Error, ErrorKind, Read, Result as IoResult, Write};
@@ -271,15 +271,4 @@ fn cut_from_reader(rt: HostRuntime) {
         let refused = count_received(rt.alloc(), text, 7, 100);
         assert_eq!(rt; refused, Err(ReadFromError::Image(refusal)));
     }
-}
-
-#[test]
-fn stream_texts(rt: HostRuntime) {
-    let alloc = rt.alloc();
-    let block = ReadFromError::Image(ReadError::BadBlock(2));
-    assert!(rt; says(block.to_string(alloc), "bad block 2"));
-    let read = ReadFromError::ReadFault;
-    assert!(rt; says(read.to_string(alloc), "read fault"));
-    let write = WriteError::WriteFault;
-    assert!(rt; says(write.to_string(alloc), "write fault"));
 }

@@ -3,8 +3,7 @@
 use super::*;
 use crate::limits::{ENTRIES, IMAGES};
 use procedure::{Key, Sequence, Table, Value};
-use std::alloc::{AllocError, Global};
-use std::fmt;
+use std::alloc::Global;
 use std::process::Abort;
 use std::test::Fail;
 
@@ -473,40 +472,4 @@ fn unlawful_entries(rt: HostRuntime) -> Result<(), Fail> {
         assert!(rt; is_bad(alloc, &header, given)?);
     }
     Ok(())
-}
-
-/// Whether a refusal says this.
-pub(crate) fn says(made: Result<String<Global>, AllocError>, text: &str) -> bool {
-    match made {
-        Ok(made) => made.as_str() == text,
-        Err(_) => false,
-    }
-}
-
-/// The first of these texts that its refusal doesn't say.
-pub(crate) fn unsaid<'a, E: fmt::Display>(alloc: Global, rows: &[(E, &'a str)]) -> Option<&'a str> {
-    for (refusal, text) in rows {
-        if !says(refusal.to_string(alloc), text) {
-            return Some(*text);
-        }
-    }
-    None
-}
-
-#[test]
-fn texts(rt: HostRuntime) {
-    let alloc = rt.alloc();
-    let rows = [
-        (MergeError::TooMany, "too many"),
-        (MergeError::NotFull, "not full"),
-        (MergeError::NotPartial(12), "not partial 12"),
-        (MergeError::Gap(0), "gap 0"),
-        (MergeError::NoMemory, "no memory"),
-    ];
-    assert_eq!(rt; unsaid(alloc, &rows), None);
-    assert_eq!(rt;
-        unsaid(alloc, &[(AssembleError::BadForm, "bad form")]),
-        None
-    );
-    assert_eq!(rt; unsaid(alloc, &[(OpeningError::TooMany, "too many")]), None);
 }
