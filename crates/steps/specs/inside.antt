@@ -4,6 +4,7 @@ pub mod SetAside
 pub mod InstructionLocks
 pub mod CoreFields
 pub mod CheckpointFields
+pub mod FinishedCheckpoints
 pub mod Instructions
 pub mod RecordEdits
 pub mod Endings

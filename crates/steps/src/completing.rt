@@ -7,11 +7,12 @@ ghost use Rattle.image.specs.Headers.{EachKeyOnce, of_captured};
 ghost use Rattle.image.specs.Images.{IsLawfulImage};
 ghost use Rattle.steps.specs.Checkpointing.{AdvancesTo};
 ghost use Rattle.steps.specs.Refusals.{advance_refusal};
+ghost use Rattle.steps.specs.inside.FinishedCheckpoints.{Finishes, finished_image};
 ghost use Rattle.steps.specs.machine.Machine.{base_at};
-ghost use Rattle.steps.specs.declared.checkpoints.Way.TheVariants.{Streamed, Whole};
+ghost use Rattle.steps.specs.declared.checkpoints.Way.TheVariants.{Whole};
 
 use crate::checkpointing::push_token;
-use crate::checkpoints::Way;
+use crate::checkpoints::{Checkpoint, Way};
 use crate::cores::Core;
 use crate::reclaiming::Aside;
 use image::{Entry, Header, Image, Kind};
@@ -65,68 +66,36 @@ fn taken_list<A: Allocator>(
     entries
 }
 
+/// What its scan gave becomes the image of a checkpoint, or the header of a streamed one, and waits to be
+/// taken.
+fn finish<A: Allocator>(checkpoint: &mut Checkpoint<A>, empty: Vec<Entry<A>, A>)
+    requires once { checkpoint.old.way ≡ Whole → EachKeyOnce checkpoint.old.captured.items }
+    requires lawful { checkpoint.old.way ≡ Whole → IsLawfulImage (finished_image checkpoint.old) }
+    ensures { Finishes checkpoint.old checkpoint.new }
+{
+    let kind = checkpoint.kind;
+    let number = checkpoint.number;
+    let place = checkpoint.place;
+    let finished = mem::replace(&mut checkpoint.finished, number);
+    match checkpoint.way {
+        Way::Whole => {
+            let entries = taken_list(&mut checkpoint.captured, empty);
+            checkpoint.waiting = Some(image_of(kind, number, finished, place, entries));
+        }
+        Way::Streamed => {
+            checkpoint.header = Some(Header {
+                kind,
+                number,
+                base: base_of(kind, number, finished),
+                place,
+                count: checkpoint.tally.count,
+                chain: checkpoint.tally.chain,
+            });
+        }
+    }
+}
+
 impl<A: Allocator + Clone> Core<A> {
-    /// The image is finished, and waits to be taken.
-    fn complete_image(&mut self) -> Result<(), NoMemory>
-        requires phase { phase_of self.old.log ≡ Capture }
-        requires free { advance_refusal self.old ≡ None }
-        requires way { self.old.checkpoint.way ≡ Whole }
-        ensures ok { OnOk result (AdvancesTo Complete self.old self.new) }
-        ensures err { OnErr result (self.new ≡ self.old) }
-    {
-        // Brings in that the store has at most 100,000 records, and so the image as many entries.
-        let _records = self.store.len();
-        let empty = Vec::new(self.alloc.clone()?);
-        push_token(&mut self.log, Phase::Complete, self.checkpoint.number)?;
-        let entries = taken_list(&mut self.checkpoint.captured, empty);
-        let image = image_of(
-            self.checkpoint.kind,
-            self.checkpoint.number,
-            self.checkpoint.finished,
-            self.checkpoint.place,
-            entries,
-        );
-        self.changed.clear_frozen();
-        // Records that were set aside since their keys were collected may go now.
-        self.aside = Aside::Unknown;
-        self.checkpoint.finished = self.checkpoint.number;
-        self.checkpoint.waiting = Some(image);
-        self.phase = Phase::Complete;
-        Ok(())
-    }
-
-    /// The header is finished, and waits to be taken.
-    fn complete_header(&mut self) -> Result<(), NoMemory>
-        requires phase { phase_of self.old.log ≡ Capture }
-        requires free { advance_refusal self.old ≡ None }
-        requires way { self.old.checkpoint.way ≡ Streamed }
-        ensures ok { OnOk result (AdvancesTo Complete self.old self.new) }
-        ensures err { OnErr result (self.new ≡ self.old) }
-    {
-        // Brings in that the store has at most 100,000 records, and so the image as many entries.
-        let _records = self.store.len();
-        push_token(&mut self.log, Phase::Complete, self.checkpoint.number)?;
-        let header = Header {
-            kind: self.checkpoint.kind,
-            number: self.checkpoint.number,
-            base: base_of(
-                self.checkpoint.kind,
-                self.checkpoint.number,
-                self.checkpoint.finished,
-            ),
-            place: self.checkpoint.place,
-            count: self.checkpoint.tally.count,
-            chain: self.checkpoint.tally.chain,
-        };
-        self.changed.clear_frozen();
-        // Records that were set aside since their keys were collected may go now.
-        self.aside = Aside::Unknown;
-        self.checkpoint.finished = self.checkpoint.number;
-        self.checkpoint.header = Some(header);
-        self.phase = Phase::Complete;
-        Ok(())
-    }
-
     /// From capture into complete: the image is finished, or the header, and waits to be taken.
     pub(crate) fn complete(&mut self) -> Result<(), NoMemory>
         requires phase { phase_of self.old.log ≡ Capture }
@@ -134,9 +103,15 @@ impl<A: Allocator + Clone> Core<A> {
         ensures ok { OnOk result (AdvancesTo Complete self.old self.new) }
         ensures err { OnErr result (self.new ≡ self.old) }
     {
-        match self.checkpoint.way {
-            Way::Whole => self.complete_image(),
-            Way::Streamed => self.complete_header(),
-        }
+        // Brings in that the store has at most 100,000 records, and so the image as many entries.
+        let _records = self.store.len();
+        let empty = Vec::new(self.alloc.clone()?);
+        push_token(&mut self.log, Phase::Complete, self.checkpoint.number)?;
+        finish(&mut self.checkpoint, empty);
+        self.changed.clear_frozen();
+        // Records that were set aside since their keys were collected may go now.
+        self.aside = Aside::Unknown;
+        self.phase = Phase::Complete;
+        Ok(())
     }
 }

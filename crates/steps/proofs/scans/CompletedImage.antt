@@ -1,5 +1,5 @@
 -- A core whose image is finished.
-use Rattle.std.proofs.Common.{◌≡◌, ℕ, ◌+◌, ◌<◌, ◌≤◌, inl, inr, arith, Bool, true, false, cond, List, [], ◌∷◌, ◌++◌, get_or, length, reverse, Option, Some, None, is_some, Vec, refl, sym, ap, ◌∙◌, subst, true≢false}
+use Rattle.std.proofs.Common.{◌≡◌, ℕ, ◌+◌, ◌<◌, ◌≤◌, inl, inr, arith, Bool, true, false, cond, List, [], ◌∷◌, ◌++◌, get_or, length, reverse, Option, Some, None, is_some, refl, sym, ap, ◌∙◌, subst, true≢false}
 use Rattle.std.specs.Prelude.{IsSome, nat_lt}
 use Rattle.std.specs.FinMap as fin
 use Rattle.std.proofs.lemmas.Bool.{ltb-false}
@@ -13,7 +13,7 @@ use Rattle.commitlog.specs.Records.{Record, Token}
 use Rattle.image.proofs.Joins.{is_true}
 use Rattle.image.proofs.Rising.{find_at}
 use Rattle.image.proofs.Sorting.{changes_of-captured}
-use Rattle.image.specs.Headers.{FitsHeader, assembled, map_of, of_captured}
+use Rattle.image.specs.Headers.{EachKeyOnce, FitsHeader, map_of, of_captured}
 use Rattle.image.specs.Images as taken
 use Rattle.image.specs.Images.{AllPresent, IsLawfulImage, SuitsKind}
 use Rattle.image.specs.Merges.{table_of}
@@ -34,9 +34,11 @@ use Rattle.steps.specs.machine.Invariant.{IsFinishedImage}
 use Rattle.steps.specs.Refusals.{is_cutting}
 use Rattle.steps.specs.Promises.{machine_plain}
 use Rattle.steps.specs.inside.CheckpointFields.{IsHead, is_unfinished, machine_image}
+use Rattle.steps.specs.inside.FinishedCheckpoints.{Finishes, finished_header, finished_image}
 use Rattle.steps.specs.machine.ScheduleAnswers.{Among}
 use Rattle.steps.specs.machine.Machine.{Completes, Runs, State, base_at, complete, image, initial, keeps, more}
 use Rattle.steps.specs.declared.checkpoints.Checkpoint.{Checkpoint}
+use Rattle.steps.specs.declared.checkpoints.Way.{Way}
 use Rattle.steps.specs.declared.checkpoints.Way.TheVariants.{Streamed, Whole}
 use Rattle.steps.specs.declared.cores.Core.TheInside.{Inside}
 use Rattle.steps.proofs.scans.CapturingCore.{phase_here, recorded, scan_good, scan_here}
@@ -72,9 +74,6 @@ module _ {A : Type 0} where
   abbrev pub image_at : Checkpoint A → List taken.Entry → taken.Image
   image_at k es = of_captured k.kind k.number (base_at k.kind k.number k.finished) k.place es
 
-  pub same_lawful : (k : Checkpoint A) (es : List taken.Entry) → es ≡ k.given.entries → IsLawfulImage (image_at k k.given.entries) → IsLawfulImage (image_at k es)
-  same_lawful k es f lawful = subst (λ l. IsLawfulImage (image_at k l)) (sym f) lawful
-
 module _ {A : Type 0} (c : Inside A) (ok : IsCore c) (phase_is : c.phase ≡ Capture) where
   abbrev w : State
   w = ok.world
@@ -86,9 +85,12 @@ module _ {A : Type 0} (c : Inside A) (ok : IsCore c) (phase_is : c.phase ≡ Cap
   abbrev made : taken.Image
   made = image_at c.checkpoint c.checkpoint.given.entries
 
-  -- a list that was the captured one has what was given
-  pub all_given : c.checkpoint.way ≡ Whole → (v : Vec (Bytes × Cell) A) → v.items ≡ c.checkpoint.captured.items → v.items ≡ c.checkpoint.given.entries
-  all_given way v e = e ∙ (scan_here c ok phase_is).captured way
+  -- what was captured is what was given
+  all_given : c.checkpoint.way ≡ Whole → c.checkpoint.captured.items ≡ c.checkpoint.given.entries
+  all_given way = (scan_here c ok phase_is).captured way
+
+  pub captured_once : c.checkpoint.way ≡ Whole → EachKeyOnce c.checkpoint.captured.items
+  captured_once way = subst EachKeyOnce (sym (all_given way)) (scan_here c ok phase_is).once
 
   cutting : is_cutting c.phase ≡ true
   cutting = ap is_cutting phase_is
@@ -129,7 +131,7 @@ module _ {A : Type 0} (c : Inside A) (ok : IsCore c) (phase_is : c.phase ≡ Cap
   suits Full e = (refl, present e)
   suits Partial e = base_below
 
-  pub made_lawful : store.records c.store ≤ STORE_RECORDS → IsLawfulImage made
+  made_lawful : store.records c.store ≤ STORE_RECORDS → IsLawfulImage made
   made_lawful most = record {
     few =
         let few = few_keys c.store entries has_record in
@@ -137,6 +139,9 @@ module _ {A : Type 0} (c : Inside A) (ok : IsCore c) (phase_is : c.phase ≡ Cap
     rises = is_true _ (fin.entries_sorted entries);
     kind = suits c.checkpoint.kind refl;
   }
+
+  pub captured_lawful : c.checkpoint.way ≡ Whole → store.records c.store ≤ STORE_RECORDS → IsLawfulImage (finished_image c.checkpoint)
+  captured_lawful way most = subst (λ l. IsLawfulImage (image_at c.checkpoint l)) (sym (all_given way)) (made_lawful most)
 
   -- as many entries were given as an image may have, at most
   pub few_given : store.records c.store ≤ STORE_RECORDS → length c.checkpoint.given.entries ≤ ENTRIES
@@ -253,73 +258,65 @@ module _ {A : Type 0} (c : Inside A) (ok : IsCore c) (phase_is : c.phase ≡ Cap
         }
         (λ slot key there so. tt)
 
-    -- AN IMAGE WAITS
+    -- THE IMAGE WAITS, OR THE HEADER
 
-    module _ (empty list : Vec (Bytes × Cell) A) (i : taken.Image) (way : c.checkpoint.way ≡ Whole) (list_is : list.items ≡ c.checkpoint.captured.items)
-        (image_is : i ≡ image_at c.checkpoint list.items) where
-      i_is : i ≡ made
-      i_is = image_is ∙ ap (image_at c.checkpoint) (all_given way list list_is)
+    module _ (k : Checkpoint A) (f : Finishes c.checkpoint k) (most : store.records c.store ≤ STORE_RECORDS) where
+      abbrev with_checkpoint : Checkpoint A → Inside A
+      with_checkpoint x = record c { log = log; changed = changed; phase = Complete; checkpoint = x; aside = Unknown }
+
+      image_is : c.checkpoint.way ≡ Whole → finished_image c.checkpoint ≡ made
+      image_is way = ap (image_at c.checkpoint) (all_given way)
 
       abbrev with_image : Checkpoint A
-      with_image = record c.checkpoint { finished = c.checkpoint.number; captured = empty; waiting = Some i }
+      with_image = record c.checkpoint { finished = c.checkpoint.number; captured = k.captured; waiting = Some (finished_image c.checkpoint) }
 
-      abbrev after_image : Inside A
-      after_image = record c { log = log; changed = changed; phase = Complete; checkpoint = with_image; aside = Unknown }
-
-      pub image_core : IsCore after_image
-      image_core =
-          completed with_image refl refl refl (λ j is. inl (ap machine_image (sym (same_Some is) ∙ i_is) ∙ machine_is))
+      image_core : c.checkpoint.way ≡ Whole → IsCore (with_checkpoint with_image)
+      image_core way =
+          completed with_image refl refl refl (λ j is. inl (ap machine_image (sym (same_Some is) ∙ image_is way) ∙ machine_is))
           (λ h is. absurd (let no_header : None ≡ Some h = sym none_waits ∙ is in cc))
 
-      pub image_view : (v : CoreView) → view_of c ≡ v → AdvancesTo Complete v (view_of after_image)
-      image_view v same =
-          subst (λ (u : CoreView). AdvancesTo Complete u (view_of after_image)) same
-          (subst (λ way. CompletesBy way (view_of c) (view_of after_image)) (sym way) (
-            i,
-            made_is all_visited i i_is,
-            ap (λ l. record (view_of after_image) { log = l }) (entered_log c ok log Complete log_is),
-          ))
-
-    -- A HEADER WAITS
-
-    module _ (base : ℕ) (way : c.checkpoint.way ≡ Streamed) (base_is : base ≡ base_at c.checkpoint.kind c.checkpoint.number c.checkpoint.finished) (most : store.records c.store ≤ STORE_RECORDS) where
-      abbrev head : Header
-      head = record {
-        kind = c.checkpoint.kind;
-        number = c.checkpoint.number;
-        base = base;
-        place = c.checkpoint.place;
-        count = c.checkpoint.tally.count;
-        chain = c.checkpoint.tally.chain;
-      }
+      image_view : c.checkpoint.way ≡ Whole → AdvancesTo Complete (view_of c) (view_of (with_checkpoint with_image))
+      image_view way =
+          subst (λ way. CompletesBy way (view_of c) (view_of (with_checkpoint with_image))) (sym way) (
+            finished_image c.checkpoint,
+            made_is all_visited (finished_image c.checkpoint) (image_is way),
+            ap (λ l. record (view_of (with_checkpoint with_image)) { log = l }) (entered_log c ok log Complete log_is),
+          )
 
       abbrev with_header : Checkpoint A
-      with_header = record c.checkpoint { finished = c.checkpoint.number; header = Some head }
+      with_header = record c.checkpoint { finished = c.checkpoint.number; header = Some (finished_header c.checkpoint) }
 
-      abbrev after_header : Inside A
-      after_header = record c { log = log; changed = changed; phase = Complete; checkpoint = with_header; aside = Unknown }
-
-      makes : assembled head c.checkpoint.given.entries ≡ made
-      makes = ap (λ n. of_captured c.checkpoint.kind c.checkpoint.number n c.checkpoint.place c.checkpoint.given.entries) base_is
-
-      fits : FitsHeader head c.checkpoint.given.entries
-      fits = record {
+      fits : c.checkpoint.way ≡ Streamed → FitsHeader (finished_header c.checkpoint) c.checkpoint.given.entries
+      fits way = record {
         count = (scan_here c ok phase_is).count way;
         chain = (scan_here c ok phase_is).chain way;
         once = (scan_here c ok phase_is).once;
-        lawful = subst IsLawfulImage (sym makes) (made_lawful most);
+        lawful = made_lawful most;
       }
 
-      pub header_core : IsCore after_header
-      header_core =
+      header_core : c.checkpoint.way ≡ Streamed → IsCore (with_checkpoint with_header)
+      header_core way =
           completed with_header refl refl refl (λ i is. inr (ok.stands.checkpoint.waits i is))
-          (λ h is. subst (IsHead c.checkpoint.given.entries (complete w).images) (same_Some is) record { fits = fits; makes = inl (ap machine_image makes ∙ machine_is) })
+          (λ h is. subst (IsHead c.checkpoint.given.entries (complete w).images) (same_Some is) record { fits = fits way; makes = inl machine_is })
 
-      pub header_view : (v : CoreView) → view_of c ≡ v → AdvancesTo Complete v (view_of after_header)
-      header_view v same =
-          subst (λ (u : CoreView). AdvancesTo Complete u (view_of after_header)) same
-          (subst (λ way. CompletesBy way (view_of c) (view_of after_header)) (sym way) (
-            head,
-            record { fits = fits; image = subst (IsImageOf (view_of c)) (sym makes) finished_is },
-            ap (λ l. record (view_of after_header) { log = l }) (entered_log c ok log Complete log_is),
-          ))
+      header_view : c.checkpoint.way ≡ Streamed → AdvancesTo Complete (view_of c) (view_of (with_checkpoint with_header))
+      header_view way =
+          subst (λ way. CompletesBy way (view_of c) (view_of (with_checkpoint with_header))) (sym way) (
+            finished_header c.checkpoint,
+            record { fits = fits way; image = finished_is },
+            ap (λ l. record (view_of (with_checkpoint with_header)) { log = l }) (entered_log c ok log Complete log_is),
+          )
+
+      pub finished_core : IsCore (with_checkpoint k)
+      finished_core = by c.checkpoint.way refl
+        where
+          by : (way : Way) → c.checkpoint.way ≡ way → IsCore (with_checkpoint k)
+          by Whole e = subst (λ x. IsCore (with_checkpoint x)) (sym (f.whole e)) (image_core e)
+          by Streamed e = subst (λ x. IsCore (with_checkpoint x)) (sym (f.streamed e)) (header_core e)
+
+      pub finished_view : (v : CoreView) → view_of c ≡ v → AdvancesTo Complete v (view_of (with_checkpoint k))
+      finished_view v same = subst (λ (u : CoreView). AdvancesTo Complete u (view_of (with_checkpoint k))) same (by c.checkpoint.way refl)
+        where
+          by : (way : Way) → c.checkpoint.way ≡ way → AdvancesTo Complete (view_of c) (view_of (with_checkpoint k))
+          by Whole e = subst (λ x. AdvancesTo Complete (view_of c) (view_of (with_checkpoint x))) (sym (f.whole e)) (image_view e)
+          by Streamed e = subst (λ x. AdvancesTo Complete (view_of c) (view_of (with_checkpoint x))) (sym (f.streamed e)) (header_view e)
