@@ -5,6 +5,7 @@ pub mod InstructionLocks
 pub mod CoreFields
 pub mod CheckpointFields
 pub mod FinishedCheckpoints
+pub mod NextPhases
 pub mod Instructions
 pub mod RecordEdits
 pub mod Endings

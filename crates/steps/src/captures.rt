@@ -5,7 +5,8 @@ ghost use Rattle.phase.specs.declared.phases.Phase.TheVariants.{Capture, Resolve
 ghost use Rattle.procedure.specs.Bytes.{Bytes};
 ghost use Rattle.commitlog.specs.Histories.{phase_of};
 ghost use Rattle.record_store.specs.Stores.{changed, key_at, record_at};
-ghost use Rattle.steps.specs.Checkpointing.{AdvancesTo, CapturesAs};
+ghost use Rattle.steps.specs.Checkpointing.{CapturesAs};
+ghost use Rattle.steps.specs.inside.NextPhases.{Enters};
 ghost use Rattle.steps.specs.inside.RecordEdits.{IsFound, captured, edited, given_by};
 ghost use Rattle.steps.specs.Versions.{given_of, is_kept, kept_of, versions_in};
 ghost use Rattle.steps.specs.Refusals.{Answers, advance_refusal, capture_refusal};
@@ -208,8 +209,7 @@ impl<A: Allocator + Clone> Core<A> {
     pub(crate) fn begin_scan(&mut self) -> Result<(), NoMemory>
         requires phase { phase_of self.old.log ≡ Resolve }
         requires free { advance_refusal self.old ≡ None }
-        ensures ok { OnOk result (AdvancesTo Capture self.old self.new) }
-        ensures err { OnErr result (self.new ≡ self.old) }
+        ensures { Enters Capture self.old self.new result }
     {
         let bound = places(self.checkpoint.kind, &self.store, &self.changed);
         let count = likely_count(

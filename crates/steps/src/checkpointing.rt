@@ -13,6 +13,7 @@ ghost use Rattle.record_store.specs.ChangedSets.{empty_set, union};
 ghost use Rattle.steps.specs.inside.CoreFields.{restarted_call};
 ghost use Rattle.steps.specs.CutImages.{IsTaken};
 ghost use Rattle.steps.specs.Checkpointing.{AdvancesTo, abandoned, entered, header_taken, started, taken};
+ghost use Rattle.steps.specs.inside.NextPhases.{Enters};
 ghost use Rattle.steps.specs.Refusals.{Answers, abandon_refusal, advance_refusal, is_held, is_log_full, is_scanning, start_refusal};
 ghost use Rattle.steps.specs.declared.checkpoints.Way.TheVariants.{Streamed, Whole};
 ghost use Rattle.steps.specs.declared.errors.AbandonError.TheVariants as abandoning;
@@ -198,8 +199,7 @@ impl<A: Allocator> Core<A> {
     fn resolve(&mut self) -> Result<(), NoMemory>
         requires phase { phase_of self.old.log ≡ Prepare }
         requires free { advance_refusal self.old ≡ None }
-        ensures ok { OnOk result (AdvancesTo Resolve self.old self.new) }
-        ensures err { OnErr result (self.new ≡ self.old) }
+        ensures { Enters Resolve self.old self.new result }
     {
         let place = self.log.len() as u64;
         push_token(&mut self.log, Phase::Resolve, self.checkpoint.number)?;
@@ -213,8 +213,7 @@ impl<A: Allocator> Core<A> {
     fn rest(&mut self) -> Result<(), NoMemory>
         requires phase { phase_of self.old.log ≡ Complete }
         requires free { advance_refusal self.old ≡ None }
-        ensures ok { OnOk result (AdvancesTo Rest self.old self.new) }
-        ensures err { OnErr result (self.new ≡ self.old) }
+        ensures { Enters Rest self.old self.new result }
     {
         push_token(&mut self.log, Phase::Rest, self.checkpoint.number)?;
         self.store.next_number();
@@ -300,8 +299,7 @@ impl<A: Allocator + Clone> Core<A> {
     /// Enters the phase that follows, which nothing refuses.
     fn enter_next(&mut self) -> Result<(), NoMemory>
         requires { advance_refusal self.old ≡ None }
-        ensures ok { OnOk result (AdvancesTo (successor (phase_of self.old.log)) self.old self.new) }
-        ensures err { OnErr result (self.new ≡ self.old) }
+        ensures { Enters (successor (phase_of self.old.log)) self.old self.new result }
     {
         match self.phase() {
             Phase::Rest => unreachable!(),

@@ -1,11 +1,11 @@
 //! How the image of a checkpoint, or the header of a streamed one, is finished.
 
-ghost use Rattle.std.specs.Prelude.{◌≡◌, None, OnErr, OnOk};
+ghost use Rattle.std.specs.Prelude.{◌≡◌, None};
 ghost use Rattle.phase.specs.declared.phases.Phase.TheVariants.{Capture, Complete};
 ghost use Rattle.commitlog.specs.Histories.{phase_of};
 ghost use Rattle.image.specs.Headers.{EachKeyOnce, of_captured};
 ghost use Rattle.image.specs.Images.{IsLawfulImage};
-ghost use Rattle.steps.specs.Checkpointing.{AdvancesTo};
+ghost use Rattle.steps.specs.inside.NextPhases.{Enters};
 ghost use Rattle.steps.specs.Refusals.{advance_refusal};
 ghost use Rattle.steps.specs.inside.FinishedCheckpoints.{Finishes, finished_image};
 ghost use Rattle.steps.specs.machine.Machine.{base_at};
@@ -100,8 +100,7 @@ impl<A: Allocator + Clone> Core<A> {
     pub(crate) fn complete(&mut self) -> Result<(), NoMemory>
         requires phase { phase_of self.old.log ≡ Capture }
         requires free { advance_refusal self.old ≡ None }
-        ensures ok { OnOk result (AdvancesTo Complete self.old self.new) }
-        ensures err { OnErr result (self.new ≡ self.old) }
+        ensures { Enters Complete self.old self.new result }
     {
         // Brings in that the store has at most 100,000 records, and so the image as many entries.
         let _records = self.store.len();

@@ -23,8 +23,8 @@ invariant_of-self-2 g c =
     free.held c.in_ok-push_token.ensures.ok c.places-bound.ensures c.make_room.ensures c.nothing-self-inside.ensures c.none-self-inside.ensures.count
     c.none-self-inside.ensures.chain)
 
-pub returns-clause-ok : goal.returns-clause-ok
-returns-clause-ok g c =
+pub returns : goal.returns
+returns g c =
     let free = advances_from c.self.inside c.self.invariant c.args.self.now c.self.view_is Resolve c.requires.phase c.requires.free in
     begin_view c.self.inside c.self.invariant c.push_token.new.log c.places-bound.result c.make_room.new.captured c.nothing-self-inside.result c.none-self-inside.result free.is
     free.held c.in_ok-push_token.ensures.ok c.places-bound.ensures c.make_room.ensures c.nothing-self-inside.ensures c.none-self-inside.ensures.count

@@ -23,8 +23,8 @@ invariant_of-self-2 g c =
     finished_core c.self.inside c.self.invariant free.is c.push_token.new.log c.clear_frozen.new.self free.scanned c.in_ok-push_token.ensures.ok c.clear_frozen.ensures
     c.finish.new.checkpoint c.finish.ensures c.len-records.ensures.most
 
-pub returns-clause-ok : goal.returns-clause-ok
-returns-clause-ok g c =
+pub returns : goal.returns
+returns g c =
     let free = advances_from c.self.inside c.self.invariant c.args.self.now c.self.view_is Capture c.requires.phase c.requires.free in
     finished_view c.self.inside c.self.invariant free.is c.push_token.new.log c.clear_frozen.new.self free.scanned c.in_ok-push_token.ensures.ok c.clear_frozen.ensures
     c.finish.new.checkpoint c.finish.ensures c.len-records.ensures.most c.args.self.now c.self.view_is

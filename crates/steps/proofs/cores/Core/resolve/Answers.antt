@@ -15,8 +15,8 @@ invariant_of-self-2 g c =
     resolve_core c.self.inside c.self.invariant c.push_token.new.log c.freeze.new.self c.len-place.result free.is free.held c.in_ok-push_token.ensures.ok
     (ap (λ (s : ChangedSets). s.collecting) c.freeze.ensures) (ap (λ (s : ChangedSets). s.frozen) c.freeze.ensures) c.len-place.ensures
 
-pub returns-clause-ok : goal.returns-clause-ok
-returns-clause-ok g c =
+pub returns : goal.returns
+returns g c =
     let free = advances_from c.self.inside c.self.invariant c.args.self.now c.self.view_is Prepare c.requires.phase c.requires.free in
     resolve_view c.self.inside c.self.invariant c.push_token.new.log c.freeze.new.self c.len-place.result free.is free.held c.in_ok-push_token.ensures.ok
     (ap (λ (s : ChangedSets). s.collecting) c.freeze.ensures) (ap (λ (s : ChangedSets). s.frozen) c.freeze.ensures) c.len-place.ensures c.args.self.now c.self.view_is

@@ -12,7 +12,7 @@ invariant_of-self-2 g c =
     let free = advances_from c.self.inside c.self.invariant c.args.self.now c.self.view_is Complete c.requires.phase c.requires.free in
     rest_core c.self.inside c.self.invariant c.push_token.new.log c.next_number.new.self free.is free.held c.in_ok-push_token.ensures.ok c.next_number.ensures
 
-pub returns-clause-ok : goal.returns-clause-ok
-returns-clause-ok g c =
+pub returns : goal.returns
+returns g c =
     let free = advances_from c.self.inside c.self.invariant c.args.self.now c.self.view_is Complete c.requires.phase c.requires.free in
     rest_view c.self.inside c.self.invariant c.push_token.new.log c.next_number.new.self free.is free.held c.in_ok-push_token.ensures.ok c.next_number.ensures c.args.self.now c.self.view_is
