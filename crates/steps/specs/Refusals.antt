@@ -215,15 +215,22 @@ abbrev pub is_capture : Phase → Bool
 is_capture Capture = true
 is_capture _ = false
 
+abbrev pub is_way : Way → Way → Bool
+is_way Whole w = not (is_streamed w)
+is_way Streamed w = is_streamed w
+
+-- why a scan in a way doesn't go on: the phase is another, or the way of the checkpoint is
+abbrev pub scan_refusal : {E : Type 0} → CoreView → Way → (not_capturing wrong_way : E) → Option E
+scan_refusal v way not_capturing wrong_way =
+    option_or (refused_unless (is_capture (phase_of v.log)) not_capturing) (refused_unless (is_way way v.checkpoint.way) wrong_way)
+
 -- why nothing is captured, want of memory apart
 abbrev pub capture_refusal : CoreView → Option CaptureError
-capture_refusal v =
-    option_or (refused_unless (is_capture (phase_of v.log)) capturing.NotCapturing) (refused_unless (not (is_streamed v.checkpoint.way)) capturing.WrongWay)
+capture_refusal v = scan_refusal v Whole capturing.NotCapturing capturing.WrongWay
 
 -- why nothing is captured into a ring, want of memory and of room apart
 abbrev pub capture_to_refusal : CoreView → Option CaptureToError
-capture_to_refusal v =
-    option_or (refused_unless (is_capture (phase_of v.log)) sending.NotCapturing) (refused_unless (is_streamed v.checkpoint.way) sending.WrongWay)
+capture_to_refusal v = scan_refusal v Streamed sending.NotCapturing sending.WrongWay
 
 -- why a checkpoint isn't abandoned, want of memory apart
 abbrev pub abandon_refusal : CoreView → Option AbandonError

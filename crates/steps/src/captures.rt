@@ -1,6 +1,7 @@
 //! How the scan of a checkpoint goes.
 
 ghost use Rattle.std.specs.Prelude.{◌≡◌, ◌≤◌, ◌++◌, ◌+◌, [], ℕ, IfOk, IfSome, None, OnErr, OnOk, Some, length, vec_capacity, vec_len};
+ghost use Rattle.std.specs.Result.{result_err};
 ghost use Rattle.phase.specs.declared.phases.Phase.TheVariants.{Capture, Resolve};
 ghost use Rattle.procedure.specs.Bytes.{Bytes};
 ghost use Rattle.commitlog.specs.Histories.{phase_of};
@@ -9,7 +10,7 @@ ghost use Rattle.steps.specs.Checkpointing.{CapturesAs};
 ghost use Rattle.steps.specs.inside.NextPhases.{Enters};
 ghost use Rattle.steps.specs.inside.RecordEdits.{IsFound, captured, edited, given_by};
 ghost use Rattle.steps.specs.Versions.{given_of, is_kept, kept_of, versions_in};
-ghost use Rattle.steps.specs.Refusals.{Answers, advance_refusal, capture_refusal};
+ghost use Rattle.steps.specs.Refusals.{Answers, advance_refusal, capture_refusal, scan_refusal};
 ghost use Rattle.steps.specs.inside.CheckpointFields.{places, spots};
 ghost use Rattle.steps.specs.inside.Spots.{VisitsKey, key_of_spot};
 ghost use Rattle.steps.specs.declared.errors.CaptureError.TheVariants as capturing;
@@ -19,6 +20,7 @@ use crate::checkpoints::{Tally, Way};
 use crate::cores::Core;
 use crate::edits::copy_of;
 use crate::errors::CaptureError;
+use crate::errors::CaptureError::{NotCapturing, WrongWay};
 use crate::given::Given;
 use image::{Entry, Kind};
 use phase::Phase;
@@ -204,6 +206,30 @@ pub(crate) fn is_kept<A: Allocator>(kind: Kind, entry: &Entry<A>) -> bool
     }
 }
 
+impl<A: Allocator> Core<A> {
+    /// Whether a scan in this way may go on, or else the refusal: that of another phase, or that of
+    /// another way.
+    pub(crate) fn may_scan<E: Copy>(
+        &self,
+        way: Way,
+        not_capturing: E,
+        wrong_way: E,
+    ) -> Result<(), E>
+        ensures ok { OnOk result ((phase_of self.now.log ≡ Capture) × (self.now.checkpoint.way ≡ way)) }
+        ensures refusal { result_err result ≡ scan_refusal self.now way not_capturing wrong_way }
+    {
+        match self.phase() {
+            Phase::Capture => {}
+            _ => return Err(not_capturing),
+        }
+        match (way, self.checkpoint.way) {
+            (Way::Whole, Way::Whole) => Ok(()),
+            (Way::Streamed, Way::Streamed) => Ok(()),
+            _ => Err(wrong_way),
+        }
+    }
+}
+
 impl<A: Allocator + Clone> Core<A> {
     /// From resolve into capture: the scan begins.
     pub(crate) fn begin_scan(&mut self) -> Result<(), NoMemory>
@@ -240,14 +266,7 @@ impl<A: Allocator + Clone> Core<A> {
         ensures refused { OnErr result (self.new ≡ self.old) }
         ensures refusal { Answers (capture_refusal self.old) capturing.NoMemory result }
     {
-        match self.phase() {
-            Phase::Capture => {}
-            _ => return Err(CaptureError::NotCapturing),
-        }
-        match self.checkpoint.way {
-            Way::Whole => {}
-            Way::Streamed => return Err(CaptureError::WrongWay),
-        }
+        self.may_scan(Way::Whole, NotCapturing, WrongWay)?;
         if self.checkpoint.cursor == self.checkpoint.bound {
             return Ok(Captured::Done);
         }

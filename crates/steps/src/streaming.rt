@@ -17,9 +17,9 @@ use crate::checkpoints::{Tally, Way};
 use crate::cores::Core;
 use crate::edits::copy_of;
 use crate::errors::CaptureToError;
+use crate::errors::CaptureToError::{NotCapturing, WrongWay};
 use crate::given::Given;
 use image::{Entry, Kind};
-use phase::Phase;
 use pipe::{Full, Tap};
 use procedure::Key;
 use record_store::{Record, Stable, Store};
@@ -150,14 +150,7 @@ impl<A: Allocator + Clone> Core<A> {
         ensures refused { OnErr result (self.new ≡ self.old) }
         ensures refusal { AnswersTo self.old tap.old result }
     {
-        match self.phase() {
-            Phase::Capture => {}
-            _ => return Err(CaptureToError::NotCapturing),
-        }
-        match self.checkpoint.way {
-            Way::Streamed => {}
-            Way::Whole => return Err(CaptureToError::WrongWay),
-        }
+        self.may_scan(Way::Streamed, NotCapturing, WrongWay)?;
         if self.checkpoint.cursor == self.checkpoint.bound {
             return Ok(Captured::Done);
         }
