@@ -94,7 +94,7 @@ second_refused b h = refuses (pointwise nat_eq (take 32 (drop 37 b)) (sha256 (ta
 first_seen : (b : Bytes) (a : Answer) → IsFirst b → IsAnswer b a → Seen (first_entries b) b a
 first_seen b (Ok i) first (inl v) =
     let r = first_again i b v in inl (record { image = i; answer = refl; entries = r.read; at = r.image; spelled = inl v })
-first_seen b (Ok i) first (inr v) = absurd (apart b first (second_again i b v).second)
+first_seen b (Ok i) first (inr v) = absurd (apart b first (second_again i b v).begins)
 first_seen b (Err refused.NotAnImage) first h = absurd (h.0 first)
 first_seen b (Err refused.BadDigest) first h = inr (inl (record { error = refused.BadDigest; answer = refl; entries = first_refused b h.1 }))
 first_seen b (Err (refused.BadBlock zero)) first h = absurd (apart b first h.0)
@@ -108,7 +108,7 @@ is_below : (j n : ℕ) → 64 * j < n → j < block_count n
 is_below j n lt = omega (arith, lt)
 
 second_seen : (b : Bytes) (a : Answer) → IsSecond b → IsBytes b → IsAnswer b a → Seen (second_entries b) b a
-second_seen b (Ok i) second fits (inl v) = absurd (apart b (first_again i b v).first second)
+second_seen b (Ok i) second fits (inl v) = absurd (apart b (first_again i b v).begins second)
 second_seen b (Ok i) second fits (inr v) =
     let r = second_again i b v in inl (record { image = i; answer = refl; entries = r.read; at = r.image; spelled = inr v })
 second_seen b (Err refused.NotAnImage) second fits h = absurd (h.1 second)
@@ -129,8 +129,8 @@ abbrev Version : Bytes → Answer → Type 0
 Version b a = IsFirst b ⊎ (IsSecond b ⊎ (a ≡ Err refused.NotAnImage))
 
 version_of : (b : Bytes) (a : Answer) → IsAnswer b a → Version b a
-version_of b (Ok i) (inl v) = inl (first_again i b v).first
-version_of b (Ok i) (inr v) = inr (inl (second_again i b v).second)
+version_of b (Ok i) (inl v) = inl (first_again i b v).begins
+version_of b (Ok i) (inr v) = inr (inl (second_again i b v).begins)
 version_of b (Err refused.NotAnImage) h = inr (inr refl)
 version_of b (Err refused.BadDigest) h = inl h.0
 version_of b (Err (refused.BadBlock zero)) h = inr (inl h.0)
@@ -166,10 +166,10 @@ alone_or_bad_fails (Some x) e h = alone_fails x e h
 
 no_first : (b : Bytes) (e : ReadError) → IsFirst b → first_entries b ≡ Err e → IsNoImage b
 no_first b e first h i (inl v) = clash (first_entries b) i.entries e (first_again i b v).read h
-no_first b e first h i (inr v) = apart b first (second_again i b v).second
+no_first b e first h i (inr v) = apart b first (second_again i b v).begins
 
 no_second : (b : Bytes) (e : ReadError) → IsSecond b → second_entries b ≡ Err e → IsNoImage b
-no_second b e second h i (inl v) = apart b (first_again i b v).first second
+no_second b e second h i (inl v) = apart b (first_again i b v).begins second
 no_second b e second h i (inr v) = clash (second_entries b) i.entries e (second_again i b v).read h
 
 differs : (x y : Bytes) → pointwise nat_eq x y ≡ false → x ≡ y → ⊥
@@ -216,10 +216,10 @@ bad_first : (b : Bytes) (es : List Entry) → IsFirst b → first_entries b ≡ 
 bad_first b es first read bad i (inl v) =
     let r = first_again i b v in
     bad i (ap (image_at b) (read_is es i.entries (sym read ∙ r.read)) ∙ r.image) v.0
-bad_first b es first read bad i (inr v) = apart b first (second_again i b v).second
+bad_first b es first read bad i (inr v) = apart b first (second_again i b v).begins
 
 bad_second : (b : Bytes) (es : List Entry) → IsSecond b → second_entries b ≡ Ok es → IsBad VALUE_BYTES b es → IsNoImage b
-bad_second b es second read bad i (inl v) = apart b (first_again i b v).first second
+bad_second b es second read bad i (inl v) = apart b (first_again i b v).begins second
 bad_second b es second read bad i (inr v) =
     let r = second_again i b v in
     bad i (ap (image_at b) (read_is es i.entries (sym read ∙ r.read)) ∙ r.image) v.0
@@ -250,8 +250,8 @@ lawful_answer b i (inr second) = second.0.lawful
 -- no two images have the same bytes
 pub one_image : (i j : Image) (b : Bytes) → IsImageSpelling i b → IsImageSpelling j b → i ≡ j
 one_image i j b (inl v) (inl w) = let r = first_again i b v in let s = first_again j b w in same_image (first_entries b) b i j r.read s.read r.image s.image
-one_image i j b (inl v) (inr w) = absurd (apart b (first_again i b v).first (second_again j b w).second)
-one_image i j b (inr v) (inl w) = absurd (apart b (first_again j b w).first (second_again i b v).second)
+one_image i j b (inl v) (inr w) = absurd (apart b (first_again i b v).begins (second_again j b w).begins)
+one_image i j b (inr v) (inl w) = absurd (apart b (first_again j b w).begins (second_again i b v).begins)
 one_image i j b (inr v) (inr w) = let r = second_again i b v in let s = second_again j b w in same_image (second_entries b) b i j r.read s.read r.image s.image
 
 -- bytes of neither version

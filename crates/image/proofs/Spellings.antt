@@ -130,14 +130,14 @@ second_length i = header_length 67 65 76 67 73 77 71 50 i
 back_is : (b t r : Bytes) → b ≡ t ++ r → drop (length b - length r) b ≡ r
 back_is b t r e = ap (λ (x : Bytes). drop (length x - length r) x) e ∙ drop_at t r (length (t ++ r) - length r) (omega (arith, length-append t r))
 
--- what reading makes of the bytes of an image in version 1
-pub record FirstRead (i : Image) (b : Bytes) : Type 0 where
-  pub first : IsFirst b
-  pub whole : IsSigned b
-  pub read : first_entries b ≡ Ok i.entries
+-- what reading makes of the bytes of an image: how they begin, their entries and the image
+pub record IsReadAs (Begins : Bytes → Type 0) (entries_of : Bytes → Result (List Entry) ReadError) (i : Image) (b : Bytes) : Type 0 where
+  pub begins : Begins b
+  pub read : entries_of b ≡ Ok i.entries
   pub image : image_at b i.entries ≡ Some i
 
-pub first_again : (i : Image) (b : Bytes) → IsVersion1 i b → FirstRead i b
+-- in version 1
+pub first_again : (i : Image) (b : Bytes) → IsVersion1 i b → IsReadAs IsFirst first_entries i b
 first_again i b (fits, is) =
     let h = image_header_bytes (codes "CALCIMG1") i in
     let es = entries_bytes i.entries in
@@ -153,20 +153,13 @@ first_again i b (fits, is) =
     ∙ ap (entries_at (length i.entries)) (drop_at h es 37 (first_length i) ∙ sym (append-nil es))
     ∙ entries_again i.entries [] (all_spellable VALUE_BYTES_V1 i.entries (omega arith) fits.entries) in
     record {
-      first = record { long = omega (arith, ap (λ (x : Bytes). length x) is, length-append (h ++ es) d, length-append h es, first_length i, digest); magic = says.begins };
-      whole = whole;
+      begins = record { long = omega (arith, ap (λ (x : Bytes). length x) is, length-append (h ++ es) d, length-append h es, first_length i, digest); magic = says.begins };
       read = first_signed b whole ∙ ap alone_or_bad entries;
       image = says.image;
     }
 
 -- and in version 2
-pub record SecondRead (i : Image) (b : Bytes) : Type 0 where
-  pub second : IsSecond b
-  pub header : HasHeader b
-  pub read : second_entries b ≡ Ok i.entries
-  pub image : image_at b i.entries ≡ Some i
-
-pub second_again : (i : Image) (b : Bytes) → IsVersion2 i b → SecondRead i b
+pub second_again : (i : Image) (b : Bytes) → IsVersion2 i b → IsReadAs IsSecond second_entries i b
 second_again i b (fits, is) =
     let h = image_header_bytes (codes "CALCIMG2") i in
     let d = sha256 h in
@@ -187,8 +180,7 @@ second_again i b (fits, is) =
       text ∙ (λ j. blocks_bytes (block_count (sym says.count j)) (sha256 (sym says.header j)) i.entries) ∙ sym (append-nil _),
     ) in
     record {
-      second = record { long = omega (arith, ap (λ (x : Bytes). length x) parts, length-append h (d ++ blocks), length-append d blocks, second_length i, digest); magic = says.begins };
-      header = header;
+      begins = record { long = omega (arith, ap (λ (x : Bytes). length x) parts, length-append h (d ++ blocks), length-append d blocks, second_length i, digest); magic = says.begins };
       read = second_signed b header ∙ ap alone_or_refused read;
       image = says.image;
     }
