@@ -10,7 +10,6 @@ pub mod Digested
 pub mod Endings
 pub mod FailedReads
 pub mod FirstBytes
-pub mod InstructionLines
 pub mod Keeping
 pub mod Lawful
 pub mod LinesAfter

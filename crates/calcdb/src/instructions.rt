@@ -291,6 +291,7 @@ fn abort_line<A: Allocator + Clone>(
 }
 
 /// The instruction that a line is, in a procedure of this arity.
+#[tactic(auto, unfolding(crate::specs::Instructions::instruction_of))]
 pub(crate) fn instruction_of<A: Allocator + Clone>(
     alloc: A,
     arity: u8,
