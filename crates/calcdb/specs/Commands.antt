@@ -6,9 +6,9 @@ use Rattle.image.specs.declared.images.Kind.TheVariants.{Full, Partial}
 use Rattle.procedure.specs.Bytes.{Bytes}
 use Rattle.procedure.specs.Table.{KeyMap}
 use Rattle.calcdb.specs.Reads.{◌>>=◌}
-use Rattle.calcdb.specs.Lines.{all_pass, first_word, no_word}
+use Rattle.calcdb.specs.Lines.{all_pass, alone_as, no_word, word_as}
 use Rattle.calcdb.specs.Values.{decimal_of, value_of}
-use Rattle.calcdb.specs.Instructions.{is_word}
+use Rattle.calcdb.specs.Instructions.{named_in}
 use Rattle.calcdb.specs.declared.commands.Command.{Command}
 use Rattle.calcdb.specs.declared.commands.Command.TheVariants as command
 use Rattle.calcdb.specs.declared.commands.NewCall.{NewCall}
@@ -34,22 +34,13 @@ procedure_of names w = if is_name w then map.get names w else None
 
 -- a session's number, at most this, and the words behind it
 abbrev pub session_at : ℕ → List Bytes → Option (ℕ × List Bytes)
-session_at most ws = do
-  w ← first_word ws
-  s ← decimal_of most w.0
-  Some (s, w.1)
+session_at most = word_as (decimal_of most)
 
 abbrev pub number_at : List Bytes → Option (ℕ × List Bytes)
-number_at ws = do
-  w ← first_word ws
-  n ← decimal_of (2 ^ 64 - 1) w.0
-  Some (n, w.1)
+number_at = word_as (decimal_of (2 ^ 64 - 1))
 
 abbrev pub procedure_at : Names → List Bytes → Option (ℕ × List Bytes)
-procedure_at names ws = do
-  w ← first_word ws
-  p ← procedure_of names w.0
-  Some (p, w.1)
+procedure_at names = word_as (procedure_of names)
 
 -- the values that words are, where each is read so
 unfoldable pub values_by : (Bytes → Option Bytes) → List Bytes → Option (List Bytes)
@@ -70,41 +61,26 @@ new_call_of most read names ws = do
 
 -- `S` alone
 unfoldable pub session_of : List Bytes → Option ℕ
-session_of ws = do
-  s ← session_at 65535 ws
-  _ ← no_word s.1
-  Some s.0
+session_of = alone_as (decimal_of 65535)
 
 abbrev pub kind_named : Bytes → Option Kind
-kind_named w = if is_word w (codes "full") then Some Full else if is_word w (codes "partial") then Some Partial else None
+kind_named = named_in ((codes "full", Full) ∷ (codes "partial", Partial) ∷ [])
 
 -- `full` or `partial` alone
 unfoldable pub kind_in : List Bytes → Option Kind
-kind_in ws = do
-  w ← first_word ws
-  k ← kind_named w.0
-  _ ← no_word w.1
-  Some k
+kind_in = alone_as kind_named
 
 -- a command without a word behind its name
 abbrev pub without_arguments : Command (List Bytes) → List Bytes → Option (Command (List Bytes))
 without_arguments c ws = no_word ws >>= λ x. Some c
 
 abbrev pub command_name : Bytes → Option CommandName
-command_name w =
-    if is_word w (codes "begin") then Some named.Begin
-    else if is_word w (codes "step") then Some named.Step
-    else if is_word w (codes "finish") then Some named.Finish
-    else if is_word w (codes "giveup") then Some named.GiveUp
-    else if is_word w (codes "call") then Some named.Call
-    else if is_word w (codes "start") then Some named.Start
-    else if is_word w (codes "advance") then Some named.Advance
-    else if is_word w (codes "capture") then Some named.Capture
-    else if is_word w (codes "scan") then Some named.Scan
-    else if is_word w (codes "image") then Some named.TakeImage
-    else if is_word w (codes "reclaim") then Some named.Reclaim
-    else if is_word w (codes "abandon") then Some named.Abandon
-    else None
+command_name =
+    named_in
+    ((codes "begin", named.Begin) ∷ (codes "step", named.Step) ∷ (codes "finish", named.Finish) ∷ (codes "giveup", named.GiveUp)
+    ∷ (codes "call", named.Call) ∷ (codes "start", named.Start) ∷ (codes "advance", named.Advance) ∷ (codes "capture", named.Capture)
+    ∷ (codes "scan", named.Scan) ∷ (codes "image", named.TakeImage) ∷ (codes "reclaim", named.Reclaim)
+    ∷ (codes "abandon", named.Abandon) ∷ [])
 
 -- no word stands behind the name of such a command
 abbrev pub stands_alone : CommandName → Bool
@@ -128,10 +104,7 @@ abbrev pub end_after : CommandName → List Bytes → Option (Unit {0})
 end_after c ws = if stands_alone c then no_word ws else Some tt
 
 abbrev pub command_at : List Bytes → Option (CommandName × List Bytes)
-command_at ws = do
-  w ← first_word ws
-  c ← command_name w.0
-  Some (c, w.1)
+command_at = word_as command_name
 
 -- the command that a line's words are
 unfoldable pub command_of : Names → List Bytes → Option (Command (List Bytes))

@@ -11,7 +11,7 @@ use Rattle.procedure.specs.declared.instructions.Instr.TheVariants.{Read, Put, I
 use Rattle.procedure.specs.declared.limits.TheConstants.{LITERAL_BYTES, REGISTERS}
 use Rattle.procedure.specs.declared.outcomes.TheConstants.{FIRST_ABORT}
 use Rattle.calcdb.specs.Reads.{◌>>=◌}
-use Rattle.calcdb.specs.Lines.{first_word, no_word}
+use Rattle.calcdb.specs.Lines.{no_word, word_as}
 use Rattle.calcdb.specs.Values.{decimal_of, value_of}
 use Rattle.calcdb.specs.declared.instructions.Verb.{Verb}
 use Rattle.calcdb.specs.declared.instructions.Verb.TheVariants as verb
@@ -20,6 +20,11 @@ use Rattle.calcdb.specs.declared.instructions.TestName.TheVariants as test
 
 abbrev pub is_word : Bytes → Bytes → Bool
 is_word = pointwise nat_eq
+
+-- the one of these whose name a word is
+abbrev pub named_in : {X : Type 0} → List (Bytes × X) → Bytes → Option X
+named_in [] w = None
+named_in (x ∷ xs) w = if is_word w x.0 then Some x.1 else named_in xs w
 
 -- one digit below the count
 abbrev pub index_of : ℕ → Bytes → Option ℕ
@@ -44,47 +49,26 @@ operand_of arity [] = None
 operand_of arity (b ∷ bs) = if b == 36 then (index_of arity bs >>= λ i. Some (Arg i)) else if b == 114 then (index_of REGISTERS bs >>= λ r. Some (Reg r)) else literal_of (b ∷ bs)
 
 abbrev pub verb_of : Bytes → Option Verb
-verb_of w =
-    if is_word w (codes "read") then Some verb.Read
-    else if is_word w (codes "put") then Some verb.Put
-    else if is_word w (codes "insert") then Some verb.Insert
-    else if is_word w (codes "delete") then Some verb.Delete
-    else if is_word w (codes "add") then Some verb.Add
-    else if is_word w (codes "sub") then Some verb.Sub
-    else if is_word w (codes "abort") then Some verb.Abort
-    else None
+verb_of =
+    named_in
+    ((codes "read", verb.Read) ∷ (codes "put", verb.Put) ∷ (codes "insert", verb.Insert) ∷ (codes "delete", verb.Delete)
+    ∷ (codes "add", verb.Add) ∷ (codes "sub", verb.Sub) ∷ (codes "abort", verb.Abort) ∷ [])
 
 abbrev pub test_of : Bytes → Option TestName
-test_of w =
-    if is_word w (codes "absent") then Some test.Absent
-    else if is_word w (codes "equal") then Some test.Equal
-    else if is_word w (codes "below") then Some test.Below
-    else None
+test_of = named_in ((codes "absent", test.Absent) ∷ (codes "equal", test.Equal) ∷ (codes "below", test.Below) ∷ [])
 
 -- what the first words say, and the words behind them
 abbrev pub verb_at : List Bytes → Option (Verb × List Bytes)
-verb_at ws = do
-  w ← first_word ws
-  v ← verb_of w.0
-  Some (v, w.1)
+verb_at = word_as verb_of
 
 abbrev pub test_at : List Bytes → Option (TestName × List Bytes)
-test_at ws = do
-  w ← first_word ws
-  t ← test_of w.0
-  Some (t, w.1)
+test_at = word_as test_of
 
 abbrev pub register_at : List Bytes → Option (ℕ × List Bytes)
-register_at ws = do
-  w ← first_word ws
-  r ← register_of w.0
-  Some (r, w.1)
+register_at = word_as register_of
 
 unfoldable pub operand_at : ℕ → List Bytes → Option (Operand Bytes × List Bytes)
-operand_at arity ws = do
-  w ← first_word ws
-  o ← operand_of arity w.0
-  Some (o, w.1)
+operand_at arity = word_as (operand_of arity)
 
 -- a decimal of 16 to 255
 abbrev pub code_of : Bytes → Option ℕ
@@ -93,10 +77,7 @@ code_of word = do
   if nat_le FIRST_ABORT c then Some c else None
 
 unfoldable pub code_at : List Bytes → Option (ℕ × List Bytes)
-code_at ws = do
-  w ← first_word ws
-  c ← code_of w.0
-  Some (c, w.1)
+code_at = word_as code_of
 
 -- the last operands of a line
 unfoldable pub one_operand : ℕ → List Bytes → Option (Operand Bytes)

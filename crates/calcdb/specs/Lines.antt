@@ -1,6 +1,7 @@
 -- A text as lines, and a line as words.
 use Rattle.std.specs.Prelude.{ℕ, ◌==◌, ◌-◌, Bool, true, ◌||◌, ◌&&◌, if◌then◌else◌, nat_le, List, [], ◌∷◌, length, take, slice_index_or, Option, Some, None}
 use Rattle.procedure.specs.Bytes.{Bytes}
+use Rattle.calcdb.specs.Reads.{◌>>=◌}
 
 -- a byte in front of the first piece
 abbrev pub led_by : ℕ → List Bytes → List Bytes
@@ -71,6 +72,20 @@ abbrev pub first_word : List Bytes → Option (Bytes × List Bytes)
 first_word [] = None
 first_word (w ∷ ws) = Some (w, ws)
 
+-- what the first word is read as, and the words behind it
+abbrev pub word_as : {X : Type 0} → (Bytes → Option X) → List Bytes → Option (X × List Bytes)
+word_as read ws = do
+  w ← first_word ws
+  x ← read w.0
+  Some (x, w.1)
+
 abbrev pub no_word : List Bytes → Option (Unit {0})
 no_word [] = Some tt
 no_word (w ∷ ws) = None
+
+-- what the word is read as that stands alone
+abbrev pub alone_as : {X : Type 0} → (Bytes → Option X) → List Bytes → Option X
+alone_as read ws = do
+  x ← word_as read ws
+  _ ← no_word x.1
+  Some x.0

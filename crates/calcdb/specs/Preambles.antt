@@ -6,7 +6,7 @@ use Rattle.procedure.specs.Procedures.{Instruction, Procedure}
 use Rattle.procedure.specs.Catalogs.{first_fault, instruction_fault, procedure_fault}
 use Rattle.procedure.specs.declared.limits.TheConstants.{ARGUMENTS, INSTRUCTIONS, PROCEDURES}
 use Rattle.calcdb.specs.Reads.{◌>>=◌}
-use Rattle.calcdb.specs.Lines.{all_pass, first_word, is_allowed, is_skipped, left_lines, lines, no_word, words}
+use Rattle.calcdb.specs.Lines.{all_pass, alone_as, first_word, is_allowed, is_skipped, left_lines, lines, words}
 use Rattle.calcdb.specs.Values.{decimal_of}
 use Rattle.calcdb.specs.Instructions.{instruction_of, is_word}
 use Rattle.calcdb.specs.Commands.{Names, is_name, procedure_of}
@@ -59,11 +59,7 @@ new_name names ws = do
 
 -- how many arguments, alone
 unfoldable pub arity_of : List Bytes → Option ℕ
-arity_of ws = do
-  w ← first_word ws
-  n ← decimal_of ARGUMENTS w.0
-  _ ← no_word w.1
-  Some n
+arity_of = alone_as (decimal_of ARGUMENTS)
 
 abbrev pub with_block : Said → Bytes → Block → Said
 with_block s name b = record s { names = map.insert s.names name (length s.procedures); block = Some b }
