@@ -21,7 +21,6 @@ pub mod OwnFiles
 pub mod Pieces
 pub mod PlanLists
 pub mod PlanScripts
-pub mod Printed
 pub mod Readers
 pub mod Recovering
 pub mod RecoveryEnds

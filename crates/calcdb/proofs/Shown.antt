@@ -1,6 +1,6 @@
 -- Texts that are shown line by line.
-use Rattle.std.proofs.Common.{◌≡◌, ◌⊎◌, inl, inr, ◌<◌, ◌≤◌, ℕ, ◌+◌, List, [], ◌∷◌, ◌++◌, length, get_or, drop, codes, Option, Result, Ok, Err, refl, sym, ap, subst, ◌∙◌, append_assoc}
-use Rattle.std.proofs.lemmas.List.{append-nil, drop_all}
+use Rattle.std.proofs.Common.{◌≡◌, ◌⊎◌, inl, inr, ◌<◌, ℕ, ◌+◌, List, [], ◌∷◌, ◌++◌, length, get_or, drop, Option, Result, Ok, Err, refl, sym, ap, subst, ◌∙◌, append_assoc}
+use Rattle.std.proofs.lemmas.List.{append-nil}
 use Rattle.std.proofs.KnownBytes.{Appends-nil}
 use Rattle.std.specs.Io.KnownBytes.{Appends}
 use Rattle.std.specs.Prelude.{IfErr, OnOk}
@@ -13,19 +13,18 @@ use Rattle.image.specs.Images.{Entry, Image}
 use Rattle.image.specs.Refusals.{IsAnswer, Refuses}
 use Rattle.image.specs.declared.errors.ReadError.{ReadError}
 use Rattle.calcdb.specs.Outcomes.{fault_text}
-use Rattle.calcdb.specs.Output.{entries_text, entry_text, image_text, value_text}
+use Rattle.calcdb.specs.Output.{entries_text, entry_text, image_text}
 use Rattle.calcdb.specs.Reasons.{log_reason, read_reason}
 use Rattle.calcdb.specs.Refusing.{Declines, FailsAs, no_memory}
 use Rattle.calcdb.specs.Runs.{Sent}
-use Rattle.calcdb.specs.Showing.{AgreesWithPrint, BreaksOff, EndsShow, IsShowFault, PrintsImage, PrintsLog, StopsIn, arguments_text, of_image, record_text, records_text}
+use Rattle.calcdb.specs.Showing.{AgreesWithPrint, BreaksOff, EndsShow, IsShowFault, PrintsImage, PrintsLog, StopsIn, of_image, record_text, records_text}
 use Rattle.procedure.specs.Streams.{IsBegun}
 use Rattle.calcdb.specs.declared.faults.Fault.{Fault}
 use Rattle.calcdb.specs.declared.faults.Fault.TheVariants as fault
 use Rattle.calcdb.specs.declared.faults.Reason.{Reason}
 use Rattle.calcdb.specs.declared.faults.Reason.TheVariants as reason
 use Rattle.calcdb.proofs.Declined.{declined, fails_wider, suits_said}
-use Rattle.procedure.proofs.WriteProgress.{Gone, begun_on, nothing_gone}
-use Rattle.calcdb.proofs.Printed.{next_is}
+use Rattle.procedure.proofs.WriteProgress.{Gone, all_gone, begun_on, more_gone, next_item, nothing_gone}
 
 -- ---- where a text stops
 
@@ -50,14 +49,29 @@ sent_lines (Ok x) old new text ok err = ok
 sent_lines (Err f) old new text ok (inl is, begun) = subst (λ (g : Fault). Sent (Err g) old new text) (sym is) begun
 sent_lines (Err f) old new text ok (inr is, begun) = subst (λ (g : Fault). Sent (Err g) old new text) (sym is) begun
 
--- behind what went out
-pub breaks_off_on : (old now new : Option Bytes) (text left more rest : Bytes) (f : Fault) → Gone old now text left → left ≡ more ++ rest → BreaksOff more now new f → BreaksOff text old new f
-breaks_off_on old now new text left more rest f gone parts (is, begun) = (is, begun_on old now new text left more rest gone parts begun)
+-- nothing is left
+pub all_out : {old now : Option Bytes} {text left : Bytes} → Gone old now text left → left ≡ [] → Appends old now text
+all_out {old} {now} {text} gone none = all_gone old now text (subst (Gone old now text) none gone)
 
--- in its front
-pub stops_in_front : (old new : Option Bytes) (text more rest : Bytes) (f : Fault) → text ≡ more ++ rest → StopsIn more old new f → StopsIn text old new f
-stops_in_front old new text more rest f parts (inl broken) = inl (breaks_off_on old old new text text more rest f (nothing_gone old text) parts broken)
-stops_in_front old new text more rest f parts (inr said) = inr said
+-- one part more of what is left
+module _ {old now : Option Bytes} {text left : Bytes} (gone : Gone old now text left) (new : Option Bytes) (part rest : Bytes) (parts : left ≡ part ++ rest) where
+  pub part_gone : Appends now new part → Gone old new text rest
+  part_gone = more_gone old now new text left part rest gone parts
+
+  pub part_breaks_off : (f : Fault) → BreaksOff part now new f → BreaksOff text old new f
+  part_breaks_off f (is, begun) = (is, begun_on old now new text left part rest gone parts begun)
+
+-- a text of two parts
+module _ (old new : Option Bytes) (front rest : Bytes) (f : Fault) where
+  pub front_breaks_off : BreaksOff front old new f → BreaksOff (front ++ rest) old new f
+  front_breaks_off = part_breaks_off (nothing_gone old (front ++ rest)) new front rest refl f
+
+  pub front_stops : StopsIn front old new f → StopsIn (front ++ rest) old new f
+  front_stops (inl broken) = inl (front_breaks_off broken)
+  front_stops (inr said) = inr said
+
+  pub rest_breaks_off : (now : Option Bytes) → Appends old now front → BreaksOff rest now new f → BreaksOff (front ++ rest) old new f
+  rest_breaks_off now wrote = part_breaks_off (part_gone (nothing_gone old (front ++ rest)) now front rest refl wrote) new rest [] (sym (append-nil rest)) f
 
 -- ---- line by line
 
@@ -70,34 +84,15 @@ unfolding records_text
 no_record i rs is = rw is refl
 
 pub next_entry : (es : List Entry) (i : ℕ) (e : Entry) → i < length es → e ≡ get_or es i e → entries_text (drop i es) ≡ entry_text e ++ entries_text (drop (i + 1) es)
-unfolding entries_text
-next_entry es i e lt is = rw (next_is es i e lt is) refl
+next_entry es i e lt is = rw (next_item es i e lt is) refl
 
 pub first_entry : (e : Entry) (all es : List Entry) → all ≡ e ∷ es → entries_text all ≡ entry_text e ++ entries_text es
-unfolding entries_text
 first_entry e all es is = rw is refl
-
-pub none_left : (es : List Entry) → es ≡ [] → entries_text es ≡ []
-unfolding entries_text
-none_left es is = rw is refl
-
-pub no_entry : (es : List Entry) (i : ℕ) → length es ≤ i → entries_text (drop i es) ≡ []
-unfolding entries_text
-no_entry es i le = rw (drop_all i es le) refl
 
 -- ---- texts behind one another
 
 pub three_pushed : (out x y z a b new : Bytes) → a ≡ out ++ x → b ≡ a ++ y → new ≡ b ++ z → new ≡ out ++ (x ++ (y ++ z))
 three_pushed out x y z a b new e f h = h ∙ ap (λ (l : Bytes). l ++ z) (f ∙ ap (λ (l : Bytes). l ++ y) e) ∙ simp append_assoc
-
-pub argument_kept : (out spaced printed : Bytes) (vs : List Bytes) (i : ℕ) (v : Bytes) → i < length vs → v ≡ get_or vs i v → spaced ≡ out ++ codes " " → printed ≡ spaced ++ value_text v →
-    printed ++ arguments_text (drop (i + 1) vs) ≡ out ++ arguments_text (drop i vs)
-unfolding arguments_text
-argument_kept out spaced printed vs i v lt is space text = rw (text, space, next_is vs i v lt is) (simp append_assoc)
-
-pub all_arguments : (out : Bytes) (vs : List Bytes) (i : ℕ) → length vs ≤ i → out ++ arguments_text (drop i vs) ≡ out
-unfolding arguments_text
-all_arguments out vs i le = rw (drop_all i vs le) (append-nil out)
 
 -- ---- what bytes print
 

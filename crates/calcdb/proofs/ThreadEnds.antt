@@ -15,7 +15,7 @@ use Rattle.calcdb.specs.ThreadRuns.{IsFound, RunsInThreads, ShowsEach, StopsInTh
 use Rattle.calcdb.specs.declared.looking.Found.{Found}
 use Rattle.calcdb.specs.declared.faults.Fault.{Fault}
 use Rattle.calcdb.proofs.CarryingOn.{sent_after}
-use Rattle.calcdb.proofs.Printed.{next_is}
+use Rattle.procedure.proofs.WriteProgress.{next_item}
 
 -- what a looker that was told more shows, one that was told less shows
 pub shows_less : (told more : List Image) (ks : List Bytes) (text : Bytes) → IsPrefix told more → ShowsEach more ks text → ShowsEach told ks text
@@ -34,7 +34,7 @@ shows_more told (j ∷ ks) k text line (seen, f, rest, q, found, is, others) one
 
 -- the keys up to one, and those after it
 pub parts_at : (ks : List Bytes) (i : ℕ) (k : Bytes) → i < length ks → k ≡ get_or ks i k → ks ≡ (take i ks ++ k ∷ []) ++ drop (i + 1) ks
-parts_at ks i k lt is = sym (take-append-drop i ks) ∙ ap (λ (l : List Bytes). take i ks ++ l) (next_is ks i k lt is) ∙ sym (append_assoc (take i ks) (k ∷ []) (drop (i + 1) ks))
+parts_at ks i k lt is = sym (take-append-drop i ks) ∙ ap (λ (l : List Bytes). take i ks ++ l) (next_item ks i k lt is) ∙ sym (append_assoc (take i ks) (k ∷ []) (drop (i + 1) ks))
 
 -- the lines of the keys of a slice, by what was told
 pub shows_keys : (told seen : List Image) (keys slice : List Bytes) (text : Bytes) → IsPrefix told seen → slice ≡ keys → ShowsEach seen slice text → ShowsEach told keys text

@@ -1,5 +1,6 @@
 -- What is printed: values, and the answers of commands.
 use Rattle.std.specs.Prelude.{ℕ, ◌==◌, Bool, ◌&&◌, if◌then◌else◌, nat_le, codes, decimal, List, [], ◌∷◌, ◌++◌, length, Some, None}
+use Rattle.std.specs.List.{flat_map}
 use Rattle.byteorder.specs.Endian.{big_number}
 use Rattle.hex.specs.Hex.{encode_lower}
 use Rattle.image.specs.Images.{Entry, Image}
@@ -26,9 +27,8 @@ cell_text None = codes "-"
 cell_text (Some v) = value_text v
 
 -- each reply behind a space
-unfoldable pub replies_text : List Cell → Bytes
-replies_text [] = []
-replies_text (c ∷ cs) = codes " " ++ cell_text c ++ replies_text cs
+abbrev pub replies_text : List Cell → Bytes
+replies_text = flat_map (λ c. codes " " ++ cell_text c)
 
 abbrev pub outcome_text : ℕ → Bytes
 outcome_text outcome = if outcome == COMMITTED then codes " committed" else codes " aborted " ++ decimal outcome
@@ -48,9 +48,8 @@ abbrev pub entry_text : Entry → Bytes
 entry_text (k, Some v) = value_text k ++ codes " " ++ value_text v ++ codes "\n"
 entry_text (k, None) = value_text k ++ codes " gone\n"
 
-unfoldable pub entries_text : List Entry → Bytes
-entries_text [] = []
-entries_text (e ∷ es) = entry_text e ++ entries_text es
+abbrev pub entries_text : List Entry → Bytes
+entries_text = flat_map entry_text
 
 abbrev pub kind_text : Kind → Bytes
 kind_text Full = codes "image full "

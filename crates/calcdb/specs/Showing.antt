@@ -1,5 +1,6 @@
 -- What bytes print: those of a log, or of an image.
 use Rattle.std.specs.Prelude.{◌≡◌, ◌⊎◌, ℕ, ◌+◌, codes, decimal, List, [], ◌∷◌, ◌++◌, length, take, Option, Result, Ok, Err}
+use Rattle.std.specs.List.{flat_map}
 use Rattle.std.specs.Io.KnownBytes.{Appends}
 use Rattle.procedure.specs.Bytes.{Bytes}
 use Rattle.phase.specs.Phases.{phase_text}
@@ -25,9 +26,8 @@ use Rattle.calcdb.specs.declared.faults.Reason.TheVariants as reason
 -- LOGS
 
 -- each argument behind a space
-unfoldable pub arguments_text : List Bytes → Bytes
-arguments_text [] = []
-arguments_text (v ∷ vs) = codes " " ++ value_text v ++ arguments_text vs
+abbrev pub arguments_text : List Bytes → Bytes
+arguments_text = flat_map (λ v. codes " " ++ value_text v)
 
 -- a call: its session, its number, its procedure, and how many arguments it has
 abbrev pub call_text : (session number procedure count : ℕ) → Bytes

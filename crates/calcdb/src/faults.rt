@@ -66,6 +66,15 @@ impl From<WriteFault> for Fault {
     }
 }
 
+impl From<NoMemory> for Fault {
+    ghost from_gives = { λ _ f. f ≡ fault.NoMemory };
+
+    /// Want of memory that isn't said.
+    fn from(_refused: NoMemory) -> Self {
+        Fault::NoMemory
+    }
+}
+
 impl From<Reason> for Fault {
     ghost from_gives = { λ r f. f ≡ fault.Refused r };
 

@@ -151,10 +151,8 @@ fn write_record<W: Write, A: Allocator + Clone, B: Allocator>(
     ensures err { IfErr result (λ f. BreaksOff (spec.record_text place found.now) (W.contents writer.old) (W.contents writer.new) f) }
 {
     line.clear();
-    match push_record(line, place, found) {
-        Ok(()) => write_line(writer, line.as_slice()),
-        Err(NoMemory) => Err(Fault::NoMemory),
-    }
+    push_record(line, place, found)?;
+    write_line(writer, line.as_slice())
 }
 
 /// Writes the lines of a log's records, each made when its turn comes.
@@ -170,15 +168,11 @@ fn write_records<W: Write, A: Allocator + Clone>(
 {
     let mut records = records;
     let mut place = 0;
-    loop {
-        let found = match records.next(alloc) {
-            Ok(Some(found)) => found,
-            Ok(None) => return Ok(()),
-            Err(NoMemory) => return Err(Fault::NoMemory),
-        };
+    while let Some(found) = records.next(alloc)? {
         write_record(writer, line, place, &found)?;
         place += 1;
     }
+    Ok(())
 }
 
 /// Writes a log, line by line.
@@ -206,10 +200,8 @@ fn write_entry<W: Write, A: Allocator + Clone, B: Allocator>(
     ensures err { IfErr result (λ f. BreaksOff (entry_text entry.now) (W.contents writer.old) (W.contents writer.new) f) }
 {
     line.clear();
-    match push_entry(line, entry) {
-        Ok(()) => write_line(writer, line.as_slice()),
-        Err(NoMemory) => Err(Fault::NoMemory),
-    }
+    push_entry(line, entry)?;
+    write_line(writer, line.as_slice())
 }
 
 /// Writes the lines of an image's entries.
@@ -237,10 +229,8 @@ fn write_header_line<W: Write, A: Allocator, B: Allocator>(
     ensures err { IfErr result (λ f. BreaksOff (header_line image.now) (W.contents writer.old) (W.contents writer.new) f) }
 {
     line.clear();
-    match push_header_line(line, image) {
-        Ok(()) => write_line(writer, line.as_slice()),
-        Err(NoMemory) => Err(Fault::NoMemory),
-    }
+    push_header_line(line, image)?;
+    write_line(writer, line.as_slice())
 }
 
 /// Writes an image by way of a buffer that has one of its lines at a time. What was in it is lost.
@@ -267,14 +257,10 @@ fn write_stored_entries<W: Write, A: Allocator + Copy>(
     ensures err { IfErr result (λ f. BreaksOff (entries_text entries.entry) (W.contents writer.old) (W.contents writer.new) f) }
 {
     let mut entries = entries;
-    loop {
-        let entry = match entries.next(alloc) {
-            Ok(Some(entry)) => entry,
-            Ok(None) => return Ok(()),
-            Err(NoMemory) => return Err(Fault::NoMemory),
-        };
+    while let Some(entry) = entries.next(alloc)? {
         write_entry(writer, line, &entry)?;
     }
+    Ok(())
 }
 
 /// Writes the header line of an image that was checked.

@@ -1,28 +1,25 @@
-use Rattle.std.proofs.Common.{[], refl, sym, ap, ◌∙◌}
+use Rattle.std.proofs.Common.{List, subst}
 use Rattle.std.proofs.lemmas.Result.{IfErr-weaker, err_from_is_err_and}
-use Rattle.std.proofs.lemmas.List.{append-nil}
-use Rattle.calcdb.specs.Output.{entries_text, header_line, image_text}
-use Rattle.procedure.proofs.WriteProgress.{more_gone, nothing_gone}
-use Rattle.calcdb.proofs.Shown.{breaks_off_on}
+use Rattle.image.specs.Images.{Entry}
+use Rattle.calcdb.specs.Output.{entries_text, header_line}
+use Rattle.calcdb.specs.Showing.{BreaksOff}
+use Rattle.calcdb.proofs.Shown.{front_breaks_off, rest_breaks_off}
 use Rattle.calcdb.proofs.show.write_image_lines.Goals as goal
 
 pub returns-in_err-write_header_line-clause-err : goal.returns-in_err-write_header_line-clause-err
 returns-in_err-write_header_line-clause-err g c =
-    let old = g.W.Write.contents c.args.writer.now in
-    let new = g.W.Write.contents c.write_header_line.new.writer in
     let i = c.args.image.now in
-    let text = image_text i in
     let p = err_from_is_err_and c.from_residual.result c.from_residual.ensures.1 in
-    rw (p.1, p.2) (breaks_off_on old old new text text (header_line i) (entries_text i.entries) c.in_err-write_header_line.field-0.0 (nothing_gone old text) refl c.in_err-write_header_line.ensures.err)
+    rw (p.1, p.2)
+    (front_breaks_off (g.W.Write.contents c.args.writer.now) (g.W.Write.contents c.write_header_line.new.writer) (header_line i) (entries_text i.entries) c.in_err-write_header_line.field-0.0
+    c.in_err-write_header_line.ensures.err)
 
 pub returns-clause-err : goal.returns-clause-err
 returns-clause-err g c =
-    let old = g.W.Write.contents c.args.writer.now in
     let now = g.W.Write.contents c.write_header_line.new.writer in
     let new = g.W.Write.contents c.write_entries.new.writer in
     let i = c.args.image.now in
-    let text = image_text i in
-    let given = entries_text c.entries.result.now in
-    let gone = more_gone old old now text text (header_line i) (entries_text i.entries) (nothing_gone old text) refl c.in_ok-write_header_line.ensures.ok in
-    IfErr-weaker c.write_entries.result _ _ (λ f h. breaks_off_on old now new text (entries_text i.entries) given [] f gone (ap entries_text (sym c.entries.ensures.value) ∙ sym (append-nil given)) h)
+    IfErr-weaker c.write_entries.result _ _
+    (λ f h. rest_breaks_off (g.W.Write.contents c.args.writer.now) new (header_line i) (entries_text i.entries) f now c.in_ok-write_header_line.ensures.ok
+    (subst (λ (es : List Entry). BreaksOff (entries_text es) now new f) c.entries.ensures.value h))
     c.write_entries.ensures.err
