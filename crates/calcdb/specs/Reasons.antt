@@ -2,11 +2,10 @@
 use Rattle.std.specs.Prelude.{◌≡◌, ◌⊎◌, ◌++◌, codes, decimal, Result, Ok, Err}
 use Rattle.procedure.specs.Bytes.{Bytes}
 use Rattle.commitlog.specs.declared.decoding.LogError.{LogError}
-use Rattle.commitlog.specs.declared.decoding.LogError.TheVariants as log
 use Rattle.image.specs.declared.errors.ReadError.{ReadError}
 use Rattle.image.specs.declared.errors.ReadError.TheVariants as read
 use Rattle.image.specs.declared.merges.MergeError.{MergeError}
-use Rattle.image.specs.declared.merges.MergeError.TheVariants as merge
+use Rattle.replay.specs.Refusals.{of_log, of_merge}
 use Rattle.replay.specs.declared.errors.RecoverError.{RecoverError}
 use Rattle.replay.specs.declared.errors.RecoverError.TheVariants as recover
 use Rattle.calcdb.specs.declared.faults.Reason.{Reason}
@@ -39,20 +38,6 @@ read_reason (read.BadBlock j) = BadBlock j
 read_reason read.BadForm = BadForm
 read_reason read.NoMemory = NoMemory
 
--- images that aren't merged
-abbrev pub merge_reason : MergeError → Reason
-merge_reason merge.TooMany = TooMany
-merge_reason merge.NotFull = NotFull
-merge_reason (merge.NotPartial i) = NotPartial i
-merge_reason (merge.Gap i) = Gap i
-merge_reason merge.NoMemory = NoMemory
-
--- bytes that aren't read as a log
-abbrev pub log_reason : LogError → Reason
-log_reason log.NotALog = NotALog
-log_reason (log.Damaged i) = Damaged i
-log_reason log.NoMemory = NoMemory
-
 -- a table that isn't recovered
 abbrev pub recover_reason : RecoverError → Reason
 recover_reason recover.TooMany = TooMany
@@ -66,6 +51,13 @@ recover_reason recover.WrongOpening = WrongOpening
 recover_reason recover.PlaceOutside = PlaceOutside
 recover_reason (recover.Diverged p) = Diverged p
 recover_reason recover.NoMemory = NoMemory
+
+-- images that aren't merged, and bytes that aren't read as a log, have the reason for which no table is recovered of them
+abbrev pub merge_reason : MergeError → Reason
+merge_reason e = recover_reason (of_merge e)
+
+abbrev pub log_reason : LogError → Reason
+log_reason e = recover_reason (of_log e)
 
 -- what is answered is what is said, want of memory apart
 abbrev pub Tells : {X Y : Type 0} → (X → Y) → Result X Reason → Result Y Reason → Type 0

@@ -21,7 +21,6 @@ use image::{MergeError, ReadError};
 use procedure::NoMemory;
 use procedure::streams::WriteFault;
 use replay::RecoverError;
-use std::alloc::{AllocError, AllocFailed};
 use std::error::Error;
 use std::fmt;
 
@@ -152,13 +151,7 @@ impl From<MergeError> for Reason {
     ghost from_gives = { λ e r. r ≡ merge_reason e };
 
     fn from(refused: MergeError) -> Self {
-        match refused {
-            MergeError::TooMany => Reason::TooMany,
-            MergeError::NotFull => Reason::NotFull,
-            MergeError::NotPartial(image) => Reason::NotPartial(image),
-            MergeError::Gap(image) => Reason::Gap(image),
-            MergeError::NoMemory => Reason::NoMemory,
-        }
+        Reason::from(RecoverError::from(refused))
     }
 }
 
@@ -166,11 +159,7 @@ impl From<LogError> for Reason {
     ghost from_gives = { λ e r. r ≡ log_reason e };
 
     fn from(refused: LogError) -> Self {
-        match refused {
-            LogError::NotALog => Reason::NotALog,
-            LogError::Damaged(index) => Reason::Damaged(index),
-            LogError::NoMemory => Reason::NoMemory,
-        }
+        Reason::from(RecoverError::from(refused))
     }
 }
 
@@ -198,22 +187,6 @@ impl From<NoMemory> for Reason {
     ghost from_gives = { λ _ r. r ≡ reason.NoMemory };
 
     fn from(_refused: NoMemory) -> Self {
-        Reason::NoMemory
-    }
-}
-
-impl From<AllocError> for Reason {
-    ghost from_gives = { λ _ r. r ≡ reason.NoMemory };
-
-    fn from(_refused: AllocError) -> Self {
-        Reason::NoMemory
-    }
-}
-
-impl<T: Drop> From<AllocFailed<T>> for Reason {
-    ghost from_gives = { λ _ r. r ≡ reason.NoMemory };
-
-    fn from(_refused: AllocFailed<T>) -> Self {
         Reason::NoMemory
     }
 }

@@ -7,7 +7,6 @@ ghost use Rattle.calcdb.specs.Preambles.{as_preamble};
 ghost use Rattle.calcdb.specs.Preambles as preamble;
 ghost use Rattle.calcdb.specs.Reads.{ReadsAs};
 ghost use Rattle.calcdb.specs.Scripts as spec;
-ghost use Rattle.calcdb.specs.declared.scripts.ScriptFault.TheVariants as fault;
 
 use crate::command_queue::CommandQueue;
 use crate::commands::{CommandLines, Names};
@@ -18,7 +17,7 @@ use crate::lines::{first_word, is_allowed, is_comment};
 use crate::preambles::{Preamble, read_preamble};
 use crate::thread_commands::ThreadCommands;
 use procedure::Catalog;
-use std::alloc::{AllocError, Allocator};
+use std::alloc::Allocator;
 use std::marker::Model;
 
 /// Bytes of a script, and of any text that the program reads.
@@ -31,14 +30,6 @@ pub(crate) enum ScriptFault {
     /// Over 4,194,304 bytes.
     Size,
     NoMemory,
-}
-
-impl From<AllocError> for ScriptFault {
-    ghost from_gives = { λ _ e. e ≡ fault.NoMemory };
-
-    fn from(_refused: AllocError) -> Self {
-        ScriptFault::NoMemory
-    }
 }
 
 /// The commands that lines have said so far, and the procedures' names.
