@@ -103,13 +103,10 @@ stands_alone c =
 abbrev pub end_after : CommandName → List Bytes → Option (Unit {0})
 end_after c ws = if stands_alone c then no_word ws else Some tt
 
-abbrev pub command_at : List Bytes → Option (CommandName × List Bytes)
-command_at = word_as command_name
-
 -- the command that a line's words are
 unfoldable pub command_of : Names → List Bytes → Option (Command (List Bytes))
 command_of names ws = do
-  c ← command_at ws
+  c ← word_as command_name ws
   elim c.0 [
     | named.Begin ↦ (new_call_of 65535 value_of names c.1 >>= λ n. Some (command.Begin n))
     | named.Step ↦ (session_of c.1 >>= λ s. Some (command.Step s))

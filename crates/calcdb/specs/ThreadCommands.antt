@@ -18,13 +18,10 @@ key_alone = alone_as key_of
 abbrev pub thread_command_name : Bytes → Option ThreadCommandName
 thread_command_name = named_in ((codes "call", named.Call) ∷ (codes "checkpoint", named.Checkpoint) ∷ (codes "view", named.View) ∷ [])
 
-abbrev pub thread_command_at : List Bytes → Option (ThreadCommandName × List Bytes)
-thread_command_at = word_as thread_command_name
-
 -- a call of a session from 0 to 63, whose arguments are such as keys may hold; a kind of checkpoint; or a key
 unfoldable pub thread_command_of : Names → List Bytes → Option (ThreadCommand (List Bytes))
 thread_command_of names ws = do
-  c ← thread_command_at ws
+  c ← word_as thread_command_name ws
   elim c.0 [
     | named.Call ↦ (new_call_of 63 held_value_of names c.1 >>= λ n. Some (Call n))
     | named.Checkpoint ↦ (kind_in c.1 >>= λ k. Some (Checkpoint k))
