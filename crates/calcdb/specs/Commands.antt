@@ -1,6 +1,9 @@
 -- Lines of commands.
 use Rattle.std.specs.Prelude.{ℕ, ◌-◌, ◌^◌, Bool, true, false, ◌&&◌, ◌||◌, if◌then◌else◌, nat_le, codes, List, [], ◌∷◌, ◌++◌, length, slice_index_or, Option, Some, None}
+use Rattle.std.specs.Cmp.Lexicographic.{slice_cmp}
+use Rattle.std.specs.Coded.{Coded, coded_list, coded_ℕ}
 use Rattle.std.specs.FinMap as map
+use Rattle.std.specs.Ordering.{nat_cmp}
 use Rattle.image.specs.declared.images.Kind.{Kind}
 use Rattle.image.specs.declared.images.Kind.TheVariants.{Full, Partial}
 use Rattle.procedure.specs.Bytes.{Bytes}
@@ -18,6 +21,10 @@ use Rattle.calcdb.specs.declared.commands.CommandName.TheVariants as named
 -- the number of each procedure that is defined
 abbrev pub Names : Type 0
 Names = KeyMap ℕ
+
+-- by which they are told apart
+abbrev pub names_code : Coded Names
+names_code = map.code {R = slice_cmp nat_cmp} (coded_list coded_ℕ) coded_ℕ
 
 abbrev pub is_letter : ℕ → Bool
 is_letter b = nat_le 97 b && nat_le b 122

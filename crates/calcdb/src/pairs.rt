@@ -64,15 +64,12 @@ struct Pairs<A: Allocator> {
 }
 
 impl<A: Allocator> Model for Pairs<A> {
-    ghost use Rattle.std.specs.Coded.{coded_list, coded_ℕ};
-    ghost use Rattle.std.specs.Ordering.{nat_cmp};
-    ghost use Rattle.std.specs.Cmp.Lexicographic.{slice_cmp};
-    ghost use Rattle.std.specs.FinMap as map;
     ghost use Rattle.procedure.specs.Table.{Table};
+    ghost use Rattle.calcdb.specs.Pairs.{table_code};
 
     ghost Value = { Table };
 
-    ghost coded = { map.code {R = slice_cmp nat_cmp} (coded_list coded_ℕ) (coded_list coded_ℕ) };
+    ghost coded = { table_code };
 
     ghost view = { λ p. p.table };
 }

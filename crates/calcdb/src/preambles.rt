@@ -102,15 +102,13 @@ struct Said<A: Allocator> {
 }
 
 impl<A: Allocator> Model for Said<A> {
-    ghost use Rattle.std.specs.Coded.{codes, coded_list, coded_ℕ};
-    ghost use Rattle.std.specs.Ordering.{nat_cmp};
-    ghost use Rattle.std.specs.Cmp.Lexicographic.{slice_cmp};
-    ghost use Rattle.std.specs.FinMap as map;
+    ghost use Rattle.std.specs.Coded.{codes};
+    ghost use Rattle.calcdb.specs.Commands.{names_code};
     ghost use Rattle.calcdb.specs.Preambles.{Said, IsLawfulSaid};
 
     ghost Value = { Said };
 
-    ghost coded = { Prim.hlevel (codes, map.code {R = slice_cmp nat_cmp} (coded_list coded_ℕ) coded_ℕ) };
+    ghost coded = { Prim.hlevel (codes, names_code) };
 
     ghost view = { λ s. record { names = s.names; procedures = s.procedures.items; block = s.block } };
 

@@ -40,15 +40,13 @@ struct Commands<L, A: Allocator> {
 }
 
 impl<L, A: Allocator> Model for Commands<L, A> {
-    ghost use Rattle.std.specs.Coded.{codes, coded_list, coded_ℕ};
-    ghost use Rattle.std.specs.Ordering.{nat_cmp};
-    ghost use Rattle.std.specs.Cmp.Lexicographic.{slice_cmp};
-    ghost use Rattle.std.specs.FinMap as map;
+    ghost use Rattle.std.specs.Coded.{codes};
+    ghost use Rattle.calcdb.specs.Commands.{names_code};
     ghost use Rattle.calcdb.specs.Scripts.{Commands};
 
     ghost Value = { Commands L };
 
-    ghost coded = { Prim.hlevel (codes, map.code {R = slice_cmp nat_cmp} (coded_list coded_ℕ) coded_ℕ, L.code) };
+    ghost coded = { Prim.hlevel (codes, names_code, L.code) };
 
     ghost view = { λ c. record { names = c.names; list = c.list } };
 }
