@@ -3,7 +3,6 @@
 ghost use Rattle.std.specs.Prelude.{◌≡◌, ◌<◌, ◌++◌, ◌∷◌, [], ℕ, IfOk, OnOk, filter, length, vec_len};
 ghost use Rattle.calcdb.specs.Plans.{AreNumbered, as_command, call_commands, call_asked, calls_in, calls_of, has_calls, is_of, key_asked, keys_of, kind_asked, kinds_of};
 
-use crate::commands::NewCall;
 use crate::thread_commands::ThreadCommand;
 use image::Kind;
 use procedure::{Call, Key, NoMemory, Sequence, Value};
@@ -88,18 +87,12 @@ impl<A: Allocator + Copy> Lists<A> {
         ensures keys { OnOk result (self.new.keys.items ≡ self.old.keys.items ++ key_asked command) }
     {
         match command {
-            ThreadCommand::Call(call) => {
-                let NewCall {
-                    session,
-                    number,
-                    procedure,
-                    args,
-                } = call;
+            ThreadCommand::Call(asked) => {
                 let call = Call {
-                    session,
-                    number,
-                    procedure,
-                    args,
+                    session: asked.session,
+                    number: asked.number,
+                    procedure: asked.procedure,
+                    args: asked.args,
                 };
                 add_call(alloc, &mut self.scripts, call)
             }
