@@ -119,38 +119,20 @@ where
     }
 }
 
-/// Performs what the process is asked for, with a buffer for its standard output.
-fn perform_buffered<
-    V: Env + Alloc,
-    T: Threads + Wait + Sync,
-    C: Clock + Sync,
-    R: Files + AllocGlobal + Sync,
-    I: Read,
-    O: Write + Drop,
-    E: Write + Send,
-    A: Allocator + Copy + Send + Sync,
->(
+/// What the process is asked for, in words, and a buffer for its standard output.
+type Begun<V, O, A> = (Vec<String<V>, A>, BufWriter<O, A>);
+
+/// Reads the words of the process, and makes the buffer for its standard output.
+fn begin<V: Env + Alloc, O: Write + Drop, A: Allocator + Copy>(
     alloc: A,
     env: &V,
-    threads: &T,
-    clock: &C,
-    rt: &R,
-    stdin: &mut I,
     out: O,
-    err: &mut E,
-) -> io::Result<u8>
-where
-    R::File: Drop + Send,
-    R::Dir: Send,
-    R::A: Send,
-{
+) -> io::Result<Begun<V::A, O, A>> {
     let mut words = Vec::new(alloc);
     for word in env::args(env)? {
         words.push(word)?;
     }
-    let mut out = BufWriter::with_capacity(alloc, GATHERED, out)?;
-    let words = words.as_slice();
-    Ok(perform(alloc, threads, clock, rt, words, stdin, &mut out, err))
+    Ok((words, BufWriter::with_capacity(alloc, GATHERED, out)?))
 }
 
 /// What the process does, and its status. Where its words or its buffer aren't to be had, that is for
@@ -171,8 +153,11 @@ where
     R::Dir: Send,
     R::A: Send,
 {
-    match perform_buffered(alloc, env, threads, clock, rt, stdin, out, err) {
-        Ok(status) => status,
+    match begin(alloc, env, out) {
+        Ok((words, mut out)) => {
+            let words = words.as_slice();
+            perform(alloc, threads, clock, rt, words, stdin, &mut out, err)
+        }
         Err(error) if error.kind() == io::ErrorKind::OutOfMemory => {
             concluded(err, Err(Failure::NoMemory))
         }
