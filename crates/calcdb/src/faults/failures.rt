@@ -13,7 +13,7 @@ use crate::faults::subjects::Subject;
 use crate::faults::{Fault, Reason};
 use crate::scripts::SCRIPT_BYTES;
 use procedure::NoMemory;
-use std::alloc::{AllocError, AllocFailed};
+use std::alloc::AllocError;
 use std::fmt;
 use std::io::{self, Write};
 
@@ -89,12 +89,6 @@ impl From<NoMemory> for Failure<'_> {
 
 impl From<AllocError> for Failure<'_> {
     fn from(_refused: AllocError) -> Self {
-        Failure::NoMemory
-    }
-}
-
-impl<T: Drop> From<AllocFailed<T>> for Failure<'_> {
-    fn from(_refused: AllocFailed<T>) -> Self {
         Failure::NoMemory
     }
 }
