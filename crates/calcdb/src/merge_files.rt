@@ -12,7 +12,7 @@ ghost use Rattle.calcdb.specs.Refusing.{Suits};
 ghost use Rattle.calcdb.specs.declared.faults.Reason.{Reason};
 ghost use Rattle.calcdb.specs.declared.faults.Reason.TheVariants as reason;
 
-use crate::faults::refusals::{refuse, write_header};
+use crate::faults::refusals::{refuse, with_header};
 use crate::faults::{Fault, Reason};
 use image::{Image, Merger, read_image};
 use std::alloc::Allocator;
@@ -65,13 +65,9 @@ pub(crate) fn end_merge<W: Write, A: Allocator + Copy>(
     ensures only_image { (files : List Bytes) (says : Result SpecImage Reason) → HasTaken files kept → IsMerge files says → IfOk result (λ i. says ≡ Ok i) }
     ensures only_fault { (files : List Bytes) (says : Result SpecImage Reason) → HasTaken files kept → IsMerge files says → IfErr result (λ f. Suits f says) }
 {
-    let image = match merged(alloc, kept) {
-        Ok(image) => image,
-        Err(reason) => return Err(refuse(alloc, writer, Fault::Refused(reason))),
-    };
-    match write_header(alloc, writer, &image) {
-        Ok(()) => Ok(image),
-        Err(fault) => Err(fault),
+    match merged(alloc, kept) {
+        Ok(image) => with_header(alloc, writer, image),
+        Err(reason) => Err(refuse(alloc, writer, Fault::Refused(reason))),
     }
 }
 

@@ -15,7 +15,7 @@ ghost use Rattle.calcdb.specs.Reads.{ReadsAs};
 ghost use Rattle.calcdb.specs.declared.faults.Fault.TheVariants as fault;
 
 use crate::faults::misreads::Misread;
-use crate::faults::refusals::{refuse, write_header};
+use crate::faults::refusals::{refuse, with_header};
 use crate::faults::unread::Unread;
 use crate::faults::{Fault, Reason};
 use crate::line_by_line::{LineReader, read_lines};
@@ -216,13 +216,9 @@ fn load_text<W: Write, A: Allocator + Copy>(
     ensures err { IfErr result (λ f. EndsLoad (image_of_pairs text.now) (W.contents writer.old) (W.contents writer.new) f) }
     ensures unread { IfErr result (λ f. f ≢ fault.Read) }
 {
-    let image = match read_image(alloc, text) {
-        Ok(image) => image,
-        Err(fault) => return Err(refuse(alloc, writer, Fault::from(fault))),
-    };
-    match write_header(alloc, writer, &image) {
-        Ok(()) => Ok(image),
-        Err(fault) => Err(fault),
+    match read_image(alloc, text) {
+        Ok(image) => with_header(alloc, writer, image),
+        Err(fault) => Err(refuse(alloc, writer, Fault::from(fault))),
     }
 }
 

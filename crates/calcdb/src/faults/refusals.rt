@@ -1,6 +1,6 @@
 //! Commands that say in one line why they aren't done.
 
-ghost use Rattle.std.specs.Prelude.{◌≡◌, ◌++◌, IfErr, OnOk};
+ghost use Rattle.std.specs.Prelude.{◌≡◌, ◌++◌, IfErr, IfOk, OnOk};
 ghost use Rattle.std.specs.Io.KnownBytes.{Appends};
 ghost use Rattle.calcdb.specs.Outcomes.{HasLine, Refuses, fault_text};
 ghost use Rattle.calcdb.specs.Output.{header_line};
@@ -109,18 +109,21 @@ pub(crate) fn write_line<W: Write>(writer: &mut W, line: &[u8]) -> Result<(), Fa
     Ok(write_out(writer, line)?)
 }
 
-/// Writes the header line of an image. Without memory for it, that is said.
-pub(crate) fn write_header<W: Write, A: Allocator>(
+/// Returns an image, once its header line is written. Without memory for that, it is said.
+pub(crate) fn with_header<W: Write, A: Allocator>(
     alloc: A,
     writer: &mut W,
-    image: &Image<A>,
-) -> Result<(), Fault>
-    ensures ok { OnOk result (Appends (W.contents writer.old) (W.contents writer.new) (header_line image.now)) }
-    ensures err { IfErr result (λ f. FailsText (header_line image.now) (W.contents writer.old) (W.contents writer.new) f) }
+    image: Image<A>,
+) -> Result<Image<A>, Fault>
+    ensures ok { IfOk result (λ i. (i ≡ image) × Appends (W.contents writer.old) (W.contents writer.new) (header_line image)) }
+    ensures err { IfErr result (λ f. FailsText (header_line image) (W.contents writer.old) (W.contents writer.new) f) }
 {
     let mut line = Vec::new(alloc);
-    match push_header_line(&mut line, image) {
-        Ok(()) => write_line(writer, line.as_slice()),
+    match push_header_line(&mut line, &image) {
+        Ok(()) => {
+            write_line(writer, line.as_slice())?;
+            Ok(image)
+        }
         Err(NoMemory) => Err(say_no_memory(writer)),
     }
 }

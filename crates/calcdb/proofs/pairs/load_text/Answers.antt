@@ -1,4 +1,5 @@
 use Rattle.std.proofs.Common.{◌≡◌, ◌≢◌, refl, subst, sym}
+use Rattle.std.proofs.lemmas.Result.{IfErr-weaker}
 use Rattle.procedure.specs.Bytes.{Bytes}
 use Rattle.calcdb.proofs.Declined.{declined, fails_wider}
 use Rattle.calcdb.proofs.FailedReads.{in_header, in_line, text_not_read}
@@ -10,12 +11,14 @@ use Rattle.calcdb.proofs.Loading.{load_fault, text_has_line}
 use Rattle.calcdb.specs.declared.faults.Fault.TheVariants as fault
 use Rattle.calcdb.proofs.pairs.load_text.Goals as goal
 
-pub returns-in-Err-write_header-clause-err : goal.returns-in-Err-write_header-clause-err
-returns-in-Err-write_header-clause-err g c =
+pub returns-in-Ok-clause-err : goal.returns-in-Ok-clause-err
+returns-in-Ok-clause-err g c =
     let says = image_of_pairs c.args.text.now in
     let image = c.in-Ok.image in
-    fails_wider (λ f. f ≡ no_memory) (IsLoadFault says) (λ (text : Bytes). text ≡ header_line image) (IsLoadHeader says) (λ f is. rw is refl) (λ text is. (image, c.in-Ok.ensures, is))
-    (g.W.Write.contents c.args.writer.now) (g.W.Write.contents c.write_header.new.writer) c.in-Err-write_header.fault c.in-Err-write_header.ensures.err
+    IfErr-weaker c.with_header.result _ _
+    (fails_wider (λ f. f ≡ no_memory) (IsLoadFault says) (λ (text : Bytes). text ≡ header_line image) (IsLoadHeader says) (λ f is. rw is refl) (λ text is. (image, c.in-Ok.ensures, is))
+    (g.W.Write.contents c.args.writer.now) (g.W.Write.contents c.with_header.new.writer))
+    c.with_header.ensures.err
 
 pub returns-in-Err-clause-err : goal.returns-in-Err-clause-err
 returns-in-Err-clause-err g c =
@@ -24,9 +27,10 @@ returns-in-Err-clause-err g c =
     declined (IsLoadFault says) (IsLoadHeader says) (g.W.Write.contents c.args.writer.now) (g.W.Write.contents c.refuse.new.writer) c.from.result c.refuse.result
     (subst HasLine (sym is) (text_has_line c.in-Err.fault)) (subst (IsLoadFault says) (sym is) (load_fault says c.in-Err.fault c.in-Err.ensures)) refl c.refuse.ensures
 
-pub returns-in-Err-write_header-clause-unread : goal.returns-in-Err-write_header-clause-unread
-returns-in-Err-write_header-clause-unread g c =
-    in_header (g.W.Write.contents c.args.writer.now) (g.W.Write.contents c.write_header.new.writer) c.in-Err-write_header.fault (header_line c.in-Ok.image) c.in-Err-write_header.ensures.err
+pub returns-in-Ok-clause-unread : goal.returns-in-Ok-clause-unread
+returns-in-Ok-clause-unread g c =
+    IfErr-weaker c.with_header.result _ _ (λ f. in_header (g.W.Write.contents c.args.writer.now) (g.W.Write.contents c.with_header.new.writer) f (header_line c.in-Ok.image))
+    c.with_header.ensures.err
 
 pub returns-in-Err-clause-unread : goal.returns-in-Err-clause-unread
 returns-in-Err-clause-unread g c =
