@@ -1,9 +1,6 @@
 -- The table that the pairs of a text make, and the image that it is loaded as.
 use Rattle.std.specs.Prelude.{◌≡◌, ◌&&◌, if◌then◌else◌, nat_lt, nat_le, List, length, Option, Some, None, is_none, Result, Ok, Err}
-use Rattle.std.specs.Cmp.Lexicographic.{slice_cmp}
-use Rattle.std.specs.Coded.{Coded, coded_list, coded_ℕ}
 use Rattle.std.specs.FinMap as map
-use Rattle.std.specs.Ordering.{nat_cmp}
 use Rattle.procedure.specs.Bytes.{Bytes}
 use Rattle.procedure.specs.Table.{Table, value_at}
 use Rattle.image.specs.Images.{Image, full_image}
@@ -20,10 +17,6 @@ use Rattle.calcdb.specs.declared.faults.Reason.TheVariants as reason
 use Rattle.calcdb.specs.declared.scripts.ScriptFault.{ScriptFault}
 use Rattle.calcdb.specs.declared.scripts.ScriptFault.TheVariants.{Line, Size}
 use Rattle.calcdb.specs.declared.scripts.TheConstants.{SCRIPT_BYTES}
-
--- tables are told apart by their keys and values
-abbrev pub table_code : Coded Table
-table_code = map.code {R = slice_cmp nat_cmp} (coded_list coded_ℕ) (coded_list coded_ℕ)
 
 -- `KEY VALUE`
 unfoldable pub pair_of : List Bytes → Option (Bytes × Bytes)

@@ -65,7 +65,7 @@ struct Pairs<A: Allocator> {
 
 impl<A: Allocator> Model for Pairs<A> {
     ghost use Rattle.procedure.specs.Table.{Table};
-    ghost use Rattle.calcdb.specs.Pairs.{table_code};
+    ghost use Rattle.image.specs.Tables.{table_code};
 
     ghost Value = { Table };
 
