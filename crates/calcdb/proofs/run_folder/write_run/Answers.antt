@@ -55,7 +55,8 @@ returns-clause-ok g c =
     let catalog = c.in_ok-catalog.ensures ∙ ap (λ (ps : List Procedure). sha256 (catalog_bytes ps)) c.catalog.ensures in
     on_ok_weaker c.make_log.result
     (log_made old (made c.make_images.new.folder) (made c.make_log.new.folder) (images_of core.opening c.args.ran.now.images.items) core
-    (record { catalog = c.in_ok-catalog.catalog; opening = c.in_ok-opening.opening }) c.records.result.now (so_far g (goal.at.returns-clause-ok g c).In_ok-make_images) digest catalog c.records.ensures.value)
+    (record { catalog = c.in_ok-catalog.catalog; opening = c.in_ok-opening.opening }) c.records.result.now (so_far g (goal.at.returns-clause-ok g c).In_ok-make_images) digest catalog
+    c.records.ensures.value)
     c.make_log.ensures.ok
 
 pub returns-clause-err : goal.returns-clause-err

@@ -33,9 +33,10 @@ returns-clause-ok g c =
 
 pub returns-clause-err : goal.returns-clause-err
 returns-clause-err g c =
+    let old = g.W.Write.contents c.args.writer.now in
     let now = g.W.Write.contents c.write_count.new.writer in
     let new = g.W.Write.contents c.write_records.new.writer in
     let rs = c.args.records in
     IfErr-weaker c.write_records.result _ _
-    (λ f h. inl (rest_breaks_off (g.W.Write.contents c.args.writer.now) new (count_text (length rs) c.args.ending) (records_text 0 rs) f now (counted g (goal.at.returns-clause-err g c).In_ok-write_count) h))
+    (λ f h. inl (rest_breaks_off old new (count_text (length rs) c.args.ending) (records_text 0 rs) f now (counted g (goal.at.returns-clause-err g c).In_ok-write_count) h))
     c.write_records.ensures.err

@@ -22,7 +22,8 @@ count g c = omega (arith, c.loop-found.invariant.count, ap (λ (x : List Record)
 gone : (g : _) (c : After-write_record g) → Appends (g.W.Write.contents c.loop-found.writer) (g.W.Write.contents c.write_record.new.writer) (record_text c.loop-found.place c.in-Some.found) →
     Gone (g.W.Write.contents c.args.writer.now) (g.W.Write.contents c.write_record.new.writer) (records_text 0 c.args.records) (records_text (c.loop-found.place + 1) c.next.new.self)
 gone g c =
-    part_gone c.loop-found.invariant.gone (g.W.Write.contents c.write_record.new.writer) (record_text c.loop-found.place c.in-Some.found) (records_text (c.loop-found.place + 1) c.next.new.self) (parts g c)
+    let l = c.loop-found in
+    part_gone l.invariant.gone (g.W.Write.contents c.write_record.new.writer) (record_text l.place c.in-Some.found) (records_text (l.place + 1) c.next.new.self) (parts g c)
 
 pub returns-in_err-write_record-clause-err : goal.returns-in_err-write_record-clause-err
 returns-in_err-write_record-clause-err g c =
