@@ -147,8 +147,12 @@ lengths_decide zero (a ∷ xs) (b ∷ ys) hx same = absurd (omega (arith, hx))
 lengths_decide (suc k) (a ∷ xs) (b ∷ ys) hx same = behind_same a b xs ys (same 0 (omega arith)) (lengths_decide k xs ys (omega (arith, hx)) (later k a b xs ys same))
 
 -- lists that are the same, but for items that one of them lacks, stand in the order of their lengths
-pub by_length : (k : ℕ) (x y : List ℕ) → length x ≤ k → SameBefore k x y → slice_cmp nat_cmp x y ≡ nat_cmp (length x) (length y)
+by_length : (k : ℕ) (x y : List ℕ) → length x ≤ k → SameBefore k x y → slice_cmp nat_cmp x y ≡ nat_cmp (length x) (length y)
 by_length k x y hx same = nat_cmp_is (length x) (length y) (slice_cmp nat_cmp x y) (lengths_decide k x y hx same)
+
+-- where all places of two keys are the same, the numbers of their bytes decide
+pub by_counts : (x y : List ℕ) (m n : ℕ) → m ≡ length x → n ≡ length y → m ≤ 32 → SameBefore 32 x y → nat_cmp m n ≡ slice_cmp nat_cmp x y
+by_counts x y m n one two fits same = rw (one, two) (sym (by_length 32 x y (omega (arith, one, fits)) same))
 
 abbrev zeros : ℕ → List ℕ
 zeros n = replicate n 0

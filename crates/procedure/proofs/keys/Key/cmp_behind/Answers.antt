@@ -1,7 +1,6 @@
-use Rattle.std.proofs.Common.{◌≡◌, ◌≢◌, ◌≤◌, ◌∙◌, ◌+◌, length, ap, sym, arith}
+use Rattle.std.proofs.Common.{◌≡◌, ◌≢◌, ◌∙◌, ◌+◌, length, ap, sym, arith}
 use Rattle.byteorder.specs.Endian.{big_from}
-use Rattle.procedure.specs.Bytes.{Bytes}
-use Rattle.procedure.proofs.KeyOrders.{SameBefore, by_length, decided, same_after}
+use Rattle.procedure.proofs.KeyOrders.{SameBefore, by_counts, decided, same_after}
 use Rattle.procedure.proofs.keys.Key.cmp_behind.Goals as goal
 
 pub loop-from-init : goal.loop-from-init
@@ -31,10 +30,6 @@ loop-from-preserved c =
 
 pub returns : goal.returns
 returns c =
-    let x = c.args.self.now in
-    let y = c.args.other.now in
-    let same : SameBefore 32 x y = λ i less. c.loop-from.invariant.0 i (omega (arith, less, c.loop-from-test.false)) in
-    let one : c.self.inside.len ≡ length x = c.self.invariant.len_is ∙ ap (λ (b : Bytes). length b) c.self.view_is in
-    let two : c.other.inside.len ≡ length y = c.other.invariant.len_is ∙ ap (λ (b : Bytes). length b) c.other.view_is in
-    let fits : length x ≤ 32 = omega (arith, one, c.self.invariant.fits) in
-    c.cmp-2.ensures ∙ rw (one, two) (sym (by_length 32 x y fits same))
+    let same : SameBefore 32 c.args.self.now c.args.other.now = λ i less. c.loop-from.invariant.0 i (omega (arith, less, c.loop-from-test.false)) in
+    c.cmp-2.ensures ∙ by_counts c.args.self.now c.args.other.now c.self.inside.len c.other.inside.len (c.self.invariant.len_is ∙ ap length c.self.view_is) (c.other.invariant.len_is ∙ ap length c.other.view_is)
+        c.self.invariant.fits same

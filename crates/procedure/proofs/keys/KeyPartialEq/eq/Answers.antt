@@ -1,9 +1,8 @@
-use Rattle.std.proofs.Common.{◌≡◌, ◌∙◌, ◌+◌, ◌≤◌, length, ap, sym, arith}
+use Rattle.std.proofs.Common.{◌≡◌, ◌∙◌, ◌+◌, length, ap, sym, arith}
 use Rattle.std.specs.Cmp.{unsigned_ties}
 use Rattle.std.specs.Cmp.Lexicographic.{texts_ties}
 use Rattle.byteorder.specs.Endian.{big_from}
-use Rattle.procedure.specs.Bytes.{Bytes}
-use Rattle.procedure.proofs.KeyOrders.{SameBefore, by_length, same_after}
+use Rattle.procedure.proofs.KeyOrders.{SameBefore, by_counts, same_after}
 use Rattle.procedure.proofs.keys.KeyPartialEq.eq.Goals as goal
 
 pub loop-from-preserved : goal.loop-from-preserved
@@ -15,13 +14,12 @@ loop-from-preserved c =
     let e = c.loop-from.invariant.2 in
     (same_after c.loop-from.from 8 x y c.word.ensures.bytes c.word-in-loop-from.ensures.bytes c.loop-from.invariant.0 number, q + 1, omega (arith, e))
 
--- keys with the same in all places differ in their lengths alone
+-- keys with the same in all places differ in how many bytes they have alone
 pub returns : goal.returns
 returns c =
     let x = c.args.self.now in
     let y = c.args.other.now in
+    let m = c.self.inside.len in
+    let n = c.other.inside.len in
     let same : SameBefore 32 x y = λ i less. c.loop-from.invariant.0 i (omega (arith, less, c.loop-from-test.false)) in
-    let one : c.self.inside.len ≡ length x = c.self.invariant.len_is ∙ ap (λ (b : Bytes). length b) c.self.view_is in
-    let two : c.other.inside.len ≡ length y = c.other.invariant.len_is ∙ ap (λ (b : Bytes). length b) c.other.view_is in
-    let fits : length x ≤ 32 = omega (arith, one, c.self.invariant.fits) in
-    unsigned_ties c.self.inside.len c.other.inside.len ∙ rw (one, two) (rw (sym (by_length 32 x y fits same)) (sym (texts_ties x y)))
+    unsigned_ties m n ∙ rw (by_counts x y m n (c.self.invariant.len_is ∙ ap length c.self.view_is) (c.other.invariant.len_is ∙ ap length c.other.view_is) c.self.invariant.fits same) (sym (texts_ties x y))
