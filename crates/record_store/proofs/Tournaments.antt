@@ -247,7 +247,8 @@ module _ {A : Type 0} where
   -- what a slot offers is the key at its node
   offer_at_node : (d : Inside A) (slot : ℕ) → offer_at (offers_of d) slot ≡ key_in (node_at d.nodes.items (d.slots + slot))
   offer_at_node d slot =
-      lengthened (map key_in (drop d.slots d.nodes.items)) (d.places - d.slots) slot ∙ get_or-map key_in (drop d.slots d.nodes.items) slot None ∙ ap key_in (get_or-drop d.slots d.nodes.items slot None)
+      lengthened (map key_in (drop d.slots d.nodes.items)) (d.places - d.slots) slot
+      ∙ get_or-map key_in (drop d.slots d.nodes.items) slot None ∙ ap key_in (get_or-drop d.slots d.nodes.items slot None)
 
   within_places : (d : Inside A) → IsPlayed d → d.slots ≤ d.places
   within_places d played = elim played.laid_out [ inl all ↦ omega (arith, all) | inr half ↦ omega (arith, half) ]
@@ -306,8 +307,8 @@ module _ {A : Type 0} where
       (λ n x inside. same_default (offers_of new) (offers_of d) n x inside (omega (arith, length-offers d played, length-offers new again, places)) (same n))
 
   -- a slot's own node has another candidate
-  pub put_played : (d : Inside A) (new : Inside A) (slot : ℕ) (k : Option Bytes) → IsPlayed d → slot < d.slots → new.slots ≡ d.slots → new.places ≡ d.places → vec_capacity new.nodes ≡ vec_capacity d.nodes →
-      IsPut d.nodes.items new.nodes.items d.slots slot (candidate_of k slot) → IsWonFrom new.nodes.items d.slots 1 → IsPlayed new
+  pub put_played : (d : Inside A) (new : Inside A) (slot : ℕ) (k : Option Bytes) → IsPlayed d → slot < d.slots → new.slots ≡ d.slots → new.places ≡ d.places →
+      vec_capacity new.nodes ≡ vec_capacity d.nodes → IsPut d.nodes.items new.nodes.items d.slots slot (candidate_of k slot) → IsWonFrom new.nodes.items d.slots 1 → IsPlayed new
   put_played d new slot k played within slots places room put won =
       record {
         nodes = put.len ∙ played.nodes ∙ ap (λ (n : ℕ). n + n) (sym slots);

@@ -30,6 +30,9 @@ loop-from-preserved c =
 
 pub returns : goal.returns
 returns c =
-    let same : SameBefore 32 c.args.self.now c.args.other.now = λ i less. c.loop-from.invariant.0 i (omega (arith, less, c.loop-from-test.false)) in
-    c.cmp-2.ensures ∙ by_counts c.args.self.now c.args.other.now c.self.inside.len c.other.inside.len (c.self.invariant.len_is ∙ ap length c.self.view_is) (c.other.invariant.len_is ∙ ap length c.other.view_is)
-        c.self.invariant.fits same
+    let x = c.args.self.now in
+    let y = c.args.other.now in
+    let same : SameBefore 32 x y = λ i less. c.loop-from.invariant.0 i (omega (arith, less, c.loop-from-test.false)) in
+    let one : c.self.inside.len ≡ length x = c.self.invariant.len_is ∙ ap length c.self.view_is in
+    let two : c.other.inside.len ≡ length y = c.other.invariant.len_is ∙ ap length c.other.view_is in
+    c.cmp-2.ensures ∙ by_counts x y c.self.inside.len c.other.inside.len one two c.self.invariant.fits same

@@ -22,4 +22,5 @@ returns c =
     let m = c.self.inside.len in
     let n = c.other.inside.len in
     let same : SameBefore 32 x y = λ i less. c.loop-from.invariant.0 i (omega (arith, less, c.loop-from-test.false)) in
-    unsigned_ties m n ∙ rw (by_counts x y m n (c.self.invariant.len_is ∙ ap length c.self.view_is) (c.other.invariant.len_is ∙ ap length c.other.view_is) c.self.invariant.fits same) (sym (texts_ties x y))
+    let is = by_counts x y m n (c.self.invariant.len_is ∙ ap length c.self.view_is) (c.other.invariant.len_is ∙ ap length c.other.view_is) c.self.invariant.fits same in
+    unsigned_ties m n ∙ rw is (sym (texts_ties x y))

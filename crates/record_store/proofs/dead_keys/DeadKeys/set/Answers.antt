@@ -27,7 +27,8 @@ laid g c = elim c.if-self-slot.branch [
       record { played = c.self.invariant; offers = refl; within = omega (arith, w.if-self-slot.false) }
 ]
 
-put_there : (g : _) (c : goal.After-self-2-1 g) → IsPut c.if-self-slot.self-inside.nodes.items (with_items c.if-self-slot.self-inside.nodes c.put_place.new.nodes).items c.if-self-slot.self-inside.slots c.args.slot
+put_there : (g : _) (c : goal.After-self-2-1 g) →
+    IsPut c.if-self-slot.self-inside.nodes.items (with_items c.if-self-slot.self-inside.nodes c.put_place.new.nodes).items c.if-self-slot.self-inside.slots c.args.slot
     (candidate_of c.args.key c.args.slot) × ((with_items c.if-self-slot.self-inside.nodes c.put_place.new.nodes).items ≡ c.put_place.new.nodes)
 put_there g c =
     let d = c.if-self-slot.self-inside in
