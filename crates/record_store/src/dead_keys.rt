@@ -16,14 +16,15 @@ struct Candidate {
 }
 
 /// What each slot offers, a key or nothing, seen by contracts as this list. The least is known at
-/// any time, and a change costs the logarithm of the number of slots and no memory.
+/// any time, and a change costs no memory and the logarithm of the number of slots, but for the first
+/// key of a slot without nodes.
 ///
 /// It is a tournament: the second half of the nodes are the slots' own, and an inner node n is the
 /// winner of the nodes 2n and 2n + 1, so that node 1 is the least of all. A heap would need each
 /// slot's place in it, or keep entries that no longer hold.
 ///
 /// The memory for the nodes is taken when a place is made, and first written when a slot without
-/// a node offers a key: a table in which no record dies doesn't touch it.
+/// nodes offers a key, for all places at once: a table in which no record dies doesn't touch it.
 #[derive(Drop)]
 pub struct DeadKeys<A: Allocator> {
     nodes: Vec<Option<Candidate>, A>,
@@ -237,7 +238,7 @@ impl<A: Allocator> DeadKeys<A> {
         Ok(())
     }
 
-    /// The slot offers this key from now on, or nothing. The first key of a slot without a node takes
+    /// The slot offers this key from now on, or nothing. The first key of a slot without nodes takes
     /// time in proportion to the places.
     pub fn set(&mut self, slot: usize, key: Option<Key>)
         requires { slot < length self.old }
