@@ -76,7 +76,7 @@ below_union k (x ∷ xs) hx ys hy =
     let (here, there) = parts (is_lt (by_bytes k x.0)) (below_all by_bytes k xs) hx in
     below_woven k x xs (union xs) here there (below_union k xs there) ys hy
 
-flipped : (x y : Bytes) → by_bytes x y ≡ Greater → by_bytes y x ≡ Less
+pub flipped : (x y : Bytes) → by_bytes x y ≡ Greater → by_bytes y x ≡ Less
 flipped x y e = nat_list_cmp_total.antisymm y x ∙ ap ordering_reverse e
 
 sorted_woven : (x : Entry) (xs : List Entry) → T (below_all by_bytes x.0 xs) → T (is_sorted by_bytes xs) → ((ys : List Entry) → T (is_sorted by_bytes ys) → T (is_sorted by_bytes (union xs ys))) →

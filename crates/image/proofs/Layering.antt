@@ -1,33 +1,16 @@
 -- Layers of entries: two of them as one, and one more.
-use Rattle.std.proofs.Common.{◌≡◌, ◌⊎◌, inl, inr, ℕ, ◌≤◌, List, [], ◌∷◌, ◌++◌, length, drop, map, append_assoc, T, refl, sym, ap, ◌∙◌, subst}
+use Rattle.std.proofs.Common.{◌≡◌, List, [], ◌∷◌, ◌++◌, map, refl, sym, ap, ◌∙◌, subst}
 use Rattle.std.specs.Option.{option_or}
 use Rattle.std.specs.Cmp.Lexicographic.{nat_list_cmp_total}
 use Rattle.std.specs.FinMap.{find, same_map, slice_cmp-IsAntisymmetric, nat_cmp-IsAntisymmetric}
-use Rattle.std.proofs.lemmas.List.{drop_all, map-append}
+use Rattle.std.proofs.lemmas.List.{map-append}
 use Rattle.procedure.specs.Bytes.{Bytes}
 use Rattle.procedure.specs.Table.{Table, changed_or, no_table, value_at, with_cells}
 use Rattle.image.specs.Images.{Entry, Rises, entries_of}
 use Rattle.image.specs.Joins.{Say, later_of, present}
 use Rattle.image.specs.Layers.{AllRise, with_layers}
 use Rattle.image.proofs.Rising.{by_bytes}
-use Rattle.image.proofs.Joins.{ends, find_union, is_true, sorted_union, union}
 use Rattle.image.proofs.Tables.{in_turn, present_is_table, value_at-no_table, value_at-with_cells}
-
--- what is out and what is left of two lists, where one is at its end
-pub says_joined : (out more whole xs ys older newer : List Entry) (i j : ℕ) → more ≡ out ++ drop i xs → whole ≡ more ++ drop j ys → Rises older → Rises newer →
-    out ++ union (drop i xs) (drop j ys) ≡ union older newer → (length xs ≤ i) ⊎ (length ys ≤ j) → Say (later_of older newer) whole
-says_joined out more whole xs ys older newer i j is_more is_whole hx hy same done =
-    let one : (drop i xs ≡ []) ⊎ (drop j ys ≡ []) = elim done [ inl h ↦ inl (drop_all i xs h) | inr h ↦ inr (drop_all j ys h) ] in
-    let all : union older newer ≡ whole =
-    sym same
-    ∙ ap (λ (l : List Entry). out ++ l) (ends (drop i xs) (drop j ys) one)
-    ∙ sym (append_assoc out (drop i xs) (drop j ys))
-    ∙ ap (λ (l : List Entry). l ++ drop j ys) (sym is_more)
-    ∙ sym is_whole in
-    subst (Say (later_of older newer)) all (record {
-      rises = is_true _ (sorted_union older (subst T (sym hx) tt) newer (subst T (sym hy) tt));
-      finds = λ q. find_union q older newer (subst T (sym hy) tt);
-    })
 
 -- where the others say the same over another list
 module _ (older newer set others : List Entry) (same : (q : Bytes) → later_of set others q ≡ later_of older newer q) where

@@ -22,4 +22,5 @@ pub mod Rooms
 pub mod Arrivals
 pub mod Pushes
 pub mod Replacing
+pub mod FromTheBack
 pub mod Layering

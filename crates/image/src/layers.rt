@@ -1,6 +1,6 @@
 //! Entries in layers, of which each counts over those below it.
 
-ghost use Rattle.std.specs.Prelude.{◌≡◌, ◌<◌, ◌++◌, IfOk, OnOk, drop, length, slice_index_or};
+ghost use Rattle.std.specs.Prelude.{◌≡◌, ℕ, ◌+◌, ◌<◌, ◌≤◌, ◌++◌, IfOk, OnOk, drop, length, map, slice_index_or, slice_set, take};
 ghost use Rattle.std.specs.Option.{option_to_list};
 ghost use Rattle.std.specs.Ordering.{nat_cmp};
 ghost use Rattle.std.specs.Cmp.Lexicographic.{slice_cmp};
@@ -83,35 +83,58 @@ fn replaced<A: Allocator>(
     Ok(others)
 }
 
-/// An entry by move. Where it stood its key is left, and no value.
-fn moved<A: Allocator>(entry: &mut Entry<A>) -> Entry<A>
-    ensures { result ≡ entry.old }
-{
-    Entry {
-        key: entry.key,
-        cell: entry.cell.take(),
-    }
-}
-
-/// Moves the entries from a place on behind those that are out.
-fn move_rest<A: Allocator>(
-    out: &mut Vec<Entry<A>, A>,
-    mut entries: Vec<Entry<A>, A>,
-    from: usize,
+/// As many entries more behind these, which have the keys of others and no values. Memory is taken once.
+fn make_places<A: Allocator>(
+    entries: &mut Vec<Entry<A>, A>,
+    others: &[Entry<A>],
 ) -> Result<(), NoMemory>
-    ensures { OnOk result (out.new.items ≡ out.old.items ++ drop from entries.items) }
+    ensures { OnOk result (entries.new.items ≡ entries.old.items ++ map (λ e. (e.0, None)) others.now) }
 {
-    let mut at = from;
-    while at < entries.len() {
-        out.push(moved(&mut entries[at]))?;
-        at += 1;
+    entries.reserve(others.len())?;
+    for entry in others {
+        entries.push_reserved(Entry {
+            key: entry.key,
+            cell: None,
+        });
     }
     Ok(())
 }
 
-/// Two lists as one, by move; at a key of both the newer counts.
+/// How the last of so many entries compares with a key. Where there is none it counts as below.
+fn last_compared<A: Allocator>(entries: &[Entry<A>], count: usize, key: &Key) -> Ordering
+    requires { count ≤ length entries.now }
+    ensures none { count ≡ 0 → result ≡ Ordering.Less }
+    ensures last { (at : ℕ) → (e : SpecEntry) → count ≡ at + 1 → result ≡ slice_cmp nat_cmp (slice_index_or entries.now at e).0 key.now }
+{
+    if count == 0 {
+        return Ordering::Less;
+    }
+    compared(&entries[count - 1], key)
+}
+
+/// Puts an entry at a place, over what stood there.
+fn put<A: Allocator>(entries: &mut Vec<Entry<A>, A>, at: usize, entry: Entry<A>)
+    requires { at < length entries.old.items }
+    ensures { entries.new.items ≡ slice_set entries.old.items at entry }
+{
+    entries[at] = entry;
+}
+
+/// Takes out the entries from a place up to another. The others move only where there are any.
+fn take_out<A: Allocator>(entries: &mut Vec<Entry<A>, A>, from: usize, to: usize)
+    requires order { from ≤ to }
+    requires within { to ≤ length entries.old.items }
+    ensures { entries.new.items ≡ take from entries.old.items ++ drop to entries.old.items }
+{
+    if from < to {
+        drop(entries.drain(from..to));
+    }
+}
+
+/// Two lists as one, in the memory of the older; at a key of both the newer counts. Memory is taken for
+/// the newer's entries alone. They come in from the back, so that of the older's only those move that are
+/// above one of them.
 fn joined<A: Allocator>(
-    alloc: A,
     mut older: Vec<Entry<A>, A>,
     mut newer: Vec<Entry<A>, A>,
 ) -> Result<Vec<Entry<A>, A>, NoMemory>
@@ -119,33 +142,29 @@ fn joined<A: Allocator>(
     requires newer { Rises newer.items }
     ensures { IfOk result (λ es. Say (later_of older.items newer.items) es.items) }
 {
-    let mut out = Vec::with_capacity(alloc, older.len() + newer.len())?;
-    let mut i = 0;
-    let mut j = 0;
-    while i < older.len() && j < newer.len() {
-        match compared(&older[i], &newer[j].key) {
-            Ordering::Less => {
-                out.push(moved(&mut older[i]))?;
-                i += 1;
-            }
+    let mut left = older.len();
+    make_places(&mut older, newer.as_slice())?;
+    let mut at = older.len();
+    while let Some(last) = newer.as_slice().last() {
+        at -= 1;
+        match last_compared(older.as_slice(), left, &last.key) {
+            Ordering::Less => put(&mut older, at, newer.take_last()),
             Ordering::Equal => {
-                out.push(moved(&mut newer[j]))?;
-                i += 1;
-                j += 1;
+                left -= 1;
+                put(&mut older, at, newer.take_last());
             }
             Ordering::Greater => {
-                out.push(moved(&mut newer[j]))?;
-                j += 1;
+                left -= 1;
+                older.swap(left, at);
             }
         }
     }
-    move_rest(&mut out, older, i)?;
-    move_rest(&mut out, newer, j)?;
-    Ok(out)
+    take_out(&mut older, left, at);
+    Ok(older)
 }
 
 /// A list with a newer one over it. Memory is taken only for keys that are new.
-fn covered<A: Allocator + Clone>(
+fn covered<A: Allocator>(
     alloc: A,
     mut older: Vec<Entry<A>, A>,
     newer: Vec<Entry<A>, A>,
@@ -154,11 +173,11 @@ fn covered<A: Allocator + Clone>(
     requires newer { Rises newer.items }
     ensures { IfOk result (λ es. Say (later_of older.items newer.items) es.items) }
 {
-    let others = replaced(alloc.clone()?, &mut older, newer)?;
+    let others = replaced(alloc, &mut older, newer)?;
     if others.is_empty() {
         return Ok(older);
     }
-    joined(alloc, older, others)
+    joined(older, others)
 }
 
 /// Takes off the last list, where it has no more than twice as many entries.

@@ -1,14 +1,11 @@
-use Rattle.std.proofs.Common.{◌≡◌, ◌+◌, ◌-◌, ◌≤◌, ◌++◌, length, drop}
+use Rattle.std.proofs.Common.{◌+◌, length}
+use Rattle.image.proofs.FromTheBack.{Joining}
 use Rattle.image.proofs.Joins.{union}
 use Rattle.image.proofs.layers.joined.Given as goal
 
--- what is out and what is left of the two make the whole
-abbrev pub invariant-loop-i : goal.invariant-loop-i
-invariant-loop-i g l = record {
-  whole : l.out.items ++ union (drop l.i l.older.items) (drop l.j l.newer.items) ≡ union l.fn.older.items l.fn.newer.items;
-  in_older : l.i ≤ length l.older.items;
-  in_newer : l.j ≤ length l.newer.items;
-}
+-- what is left of the two and what stands behind the gap make the whole
+abbrev pub invariant-loop-last : goal.invariant-loop-last
+invariant-loop-last g l = Joining (union l.fn.older.items l.fn.newer.items) l.older.items l.newer.items l.left l.at
 
-abbrev pub decreases-loop-i : goal.decreases-loop-i
-decreases-loop-i g l = (length l.older.items - l.i) + (length l.newer.items - l.j)
+abbrev pub decreases-loop-last : goal.decreases-loop-last
+decreases-loop-last g l = l.left + length l.newer.items
