@@ -1,11 +1,15 @@
 -- A list in the order of its keys, of which one entry gets another cell or goes.
-use Rattle.std.proofs.Common.{◌≡◌, inl, inr, ℕ, zero, suc, ◌<◌, false, cond, List, [], ◌∷◌, ◌++◌, length, get_or, slice_set, Some, None, T, sym, ap, ◌∙◌, subst, arith}
+use Rattle.std.proofs.Common.{◌≡◌, inl, inr, ℕ, zero, suc, ◌+◌, ◌<◌, ◌≤◌, false, cond, List, [], ◌∷◌, ◌++◌, length, get_or, slice_set, take, drop, append_assoc}
+use Rattle.std.proofs.Common.{Some, None, T, refl, sym, ap, ◌∙◌, subst, arith}
 use Rattle.std.specs.Option.{option_or}
 use Rattle.std.specs.Ordering.{eq_by_cmp, is_eq, is_lt, ordering_reverse}
 use Rattle.std.specs.Cmp.{tied_itself}
 use Rattle.std.specs.Cmp.Lexicographic.{nat_list_cmp_total}
 use Rattle.std.specs.FinMap.{find, is_sorted}
 use Rattle.std.specs.FinMap.Entries.{below_all}
+use Rattle.std.specs.List.{swap}
+use Rattle.std.proofs.lemmas.List.{drop_more, drop-set-lt, length-set, take_more, take-set-le}
+use Rattle.std.proofs.lemmas.List.Edits.{length-swap, swap_is, swapped_from_swap}
 use Rattle.procedure.specs.Bytes.{Bytes, Cell}
 use Rattle.image.specs.Images.{Entry, Rises}
 use Rattle.image.specs.Joins.{later_of}
@@ -123,3 +127,70 @@ module _ (older others rest : List Entry) (e new : Entry) (i : ℕ) (within : i 
         | inl same ↦ subst (λ k. later_of set (others ++ rest) k ≡ later_of older (others ++ e ∷ rest) k) (sym same) says_key
         | inr apart ↦ says_other q apart
       ]
+
+-- The newer list while it is gone through: of `now` the first `count` are to stay, and those from `index` on are to be looked at.
+-- Over `set`, which the older list has become, these say what the two lists said.
+pub record Sifting (older newer set now : List Entry) (count index : ℕ) : Type 0 where
+  pub sets : Rises set
+  pub stay : Rises (take count now ++ drop index now)
+  pub front : count ≤ index
+  pub as_many : length now ≡ length newer
+  pub says : (q : Bytes) → later_of set (take count now ++ drop index now) q ≡ later_of older newer q
+
+-- the same under other names
+pub sifting_as : (older newer set now set' now' : List Entry) (count count' index : ℕ) → set' ≡ set → now' ≡ now → count' ≡ count →
+    Sifting older newer set now count index → Sifting older newer set' now' count' index
+sifting_as older newer set now set' now' count count' index is_set is_now is_count s =
+    subst (λ (l : List Entry). Sifting older newer l now' count' index) (sym is_set)
+    (subst (λ (l : List Entry). Sifting older newer set l count' index) (sym is_now) (subst (λ (n : ℕ). Sifting older newer set now n index) (sym is_count) s))
+
+module _ (older newer set now : List Entry) (count index : ℕ) (within : index < length now) (s : Sifting older newer set now count index) where
+  -- the next gives its cell
+  pub gives : (place : ℕ) (e new left : Entry) → place < length set → e ≡ get_or now index e → new.0 ≡ (get_or set place e).0 → new.0 ≡ e.0 → new.1 ≡ e.1 →
+      Sifting older newer (slice_set set place new) (slice_set now index left) count (index + 1)
+  gives place e new left in_set is_e there key cell =
+      let others = take count now in
+      let rest = drop (index + 1) now in
+      let next : drop index now ≡ e ∷ rest = drop_more now index e within ∙ ap (λ (x : Entry). x ∷ rest) (sym is_e) in
+      let kept : take count (slice_set now index left) ++ drop (index + 1) (slice_set now index left) ≡ others ++ rest =
+      λ k. take-set-le count now index left s.front k ++ drop-set-lt (index + 1) now index left (omega arith) k in
+      let both_rise = subst (λ (l : List Entry). Rises (others ++ l)) next s.stay in
+      record {
+        sets = rises_replaced set others rest e new place in_set s.sets both_rise there key cell;
+        stay = subst Rises (sym kept) (rises_without set others rest e new place in_set s.sets both_rise there key cell);
+        front = omega (arith, s.front);
+        as_many = length-set now index left ∙ s.as_many;
+        says = λ q.
+            ap (λ (l : List Entry). later_of (slice_set set place new) l q) kept
+            ∙ says_replaced set others rest e new place in_set s.sets both_rise there key cell q
+            ∙ ap (λ (l : List Entry). later_of set (others ++ l) q) (sym next)
+            ∙ s.says q;
+      }
+
+  -- the next stays
+  pub stays : (d : Entry) → Sifting older newer set (swap now count index) (count + 1) (index + 1)
+  stays d =
+      let low : count < length now = omega (arith, s.front) in
+      let after = swap now count index in
+      let x = get_or now index d in
+      let swapped = swap_is now count index d low within in
+      let front : take count after ≡ take count now =
+      ap (take count) (sym swapped) ∙ take-set-le count (slice_set now count x) index (get_or now count d) s.front ∙ take-set-le count now count x (omega arith) in
+      let behind : drop (index + 1) after ≡ drop (index + 1) now =
+      ap (drop (index + 1)) (sym swapped)
+      ∙ drop-set-lt (index + 1) (slice_set now count x) index (get_or now count d) (omega arith)
+      ∙ drop-set-lt (index + 1) now count x (omega (arith, s.front)) in
+      let more : take (count + 1) after ≡ take count now ++ x ∷ [] =
+      take_more after count d (omega (arith, length-swap now count index))
+      ∙ (λ k. front k ++ (swapped_from_swap now after count index d low within refl).0 k ∷ []) in
+      let kept : take (count + 1) after ++ drop (index + 1) after ≡ take count now ++ drop index now =
+      (λ k. more k ++ behind k)
+      ∙ append_assoc (take count now) (x ∷ []) (drop (index + 1) now)
+      ∙ ap (λ (l : List Entry). take count now ++ l) (sym (drop_more now index d within)) in
+      record {
+        sets = s.sets;
+        stay = subst Rises (sym kept) s.stay;
+        front = omega (arith, s.front);
+        as_many = length-swap now count index ∙ s.as_many;
+        says = λ q. ap (λ (l : List Entry). later_of set l q) kept ∙ s.says q;
+      }

@@ -54,33 +54,38 @@ fn place_of<A: Allocator>(entries: &[Entry<A>], from: usize, key: &Key) -> Resul
     Err(at)
 }
 
-/// Gives the cells of the newer list to the keys that the older one has, and returns the other entries.
-fn replaced<A: Allocator>(
-    alloc: A,
-    older: &mut Vec<Entry<A>, A>,
-    newer: Vec<Entry<A>, A>,
-) -> Result<Vec<Entry<A>, A>, NoMemory>
-    requires older { Rises older.old.items }
-    requires newer { Rises newer.items }
-    ensures older { OnOk result (Rises older.new.items) }
-    ensures others { IfOk result (λ es. Rises es.items) }
-    ensures says { IfOk result (λ es. (q : Bytes) → later_of older.new.items es.items q ≡ later_of older.old.items newer.items q) }
+/// Moves the cell of an entry into another.
+fn move_cell<A: Allocator>(from: &mut Entry<A>, to: &mut Entry<A>)
+    ensures { to.new ≡ (to.old.0, from.old.1) }
 {
-    let mut others = Vec::new(alloc);
+    to.cell = from.cell.take();
+}
+
+/// Gives the cells of the newer list to the keys that the older one has. The newer list's other entries
+/// are left to it, in its memory.
+fn replaced<A: Allocator>(older: &mut Vec<Entry<A>, A>, newer: &mut Vec<Entry<A>, A>)
+    requires older { Rises older.old.items }
+    requires newer { Rises newer.old.items }
+    ensures older { Rises older.new.items }
+    ensures others { Rises newer.new.items }
+    ensures says { (q : Bytes) → later_of older.new.items newer.new.items q ≡ later_of older.old.items newer.old.items q }
+{
+    let mut count = 0;
     let mut at = 0;
-    for entry in newer {
-        match place_of(older.as_slice(), at, &entry.key) {
+    for index in 0..newer.len() {
+        match place_of(older.as_slice(), at, &newer[index].key) {
             Ok(place) => {
-                older[place].cell = entry.cell;
+                move_cell(&mut newer[index], &mut older[place]);
                 at = place;
             }
             Err(place) => {
-                others.push(entry)?;
+                newer.swap(count, index);
+                count += 1;
                 at = place;
             }
         }
     }
-    Ok(others)
+    newer.truncate(count);
 }
 
 /// As many entries more behind these, which have the keys of others and no values. Memory is taken once.
@@ -165,19 +170,18 @@ fn joined<A: Allocator>(
 
 /// A list with a newer one over it. Memory is taken only for keys that are new.
 fn covered<A: Allocator>(
-    alloc: A,
     mut older: Vec<Entry<A>, A>,
-    newer: Vec<Entry<A>, A>,
+    mut newer: Vec<Entry<A>, A>,
 ) -> Result<Vec<Entry<A>, A>, NoMemory>
     requires older { Rises older.items }
     requires newer { Rises newer.items }
     ensures { IfOk result (λ es. Say (later_of older.items newer.items) es.items) }
 {
-    let others = replaced(alloc, &mut older, newer)?;
-    if others.is_empty() {
+    replaced(&mut older, &mut newer);
+    if newer.is_empty() {
         return Ok(older);
     }
-    joined(older, others)
+    joined(older, newer)
 }
 
 /// Takes off the last list, where it has no more than twice as many entries.
@@ -202,9 +206,7 @@ impl<A: Allocator> Layers<A> {
             lists: Vec::new(alloc),
         }
     }
-}
 
-impl<A: Allocator + Clone> Layers<A> {
     /// The table changed by these entries.
     pub(crate) fn with(self, entries: Vec<Entry<A>, A>) -> Result<Self, NoMemory>
         requires { Rises entries.items }
@@ -213,8 +215,7 @@ impl<A: Allocator + Clone> Layers<A> {
         let Layers { mut lists } = self;
         let mut newest = entries;
         while let Some(older) = take_like(&mut lists, newest.len()) {
-            let alloc = lists.allocator().clone()?;
-            newest = covered(alloc, older, newest)?;
+            newest = covered(older, newest)?;
         }
         lists.push(newest)?;
         Ok(Layers { lists })
@@ -225,9 +226,9 @@ impl<A: Allocator + Clone> Layers<A> {
         ensures { IfOk result (λ es. es.items ≡ entries_of self) }
     {
         let Layers { mut lists } = self;
-        let mut all = Vec::new(alloc.clone()?);
+        let mut all = Vec::new(alloc);
         while let Some(older) = lists.pop() {
-            all = covered(alloc.clone()?, older, all)?;
+            all = covered(older, all)?;
         }
         all.retain(|entry| entry.cell.is_some());
         all.shrink_to_fit();

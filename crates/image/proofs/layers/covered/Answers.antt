@@ -6,8 +6,12 @@ use Rattle.procedure.proofs.Results.{if_ok}
 use Rattle.image.proofs.layers.covered.Goals as goal
 
 pub returns-then-is_empty : goal.returns-then-is_empty
-returns-then-is_empty g c = says_alone c.args.older.items c.args.newer.items c.replaced.new.older.items c.in_ok-others.others.items c.in_ok-others.ensures.says
-    (nil_from_length c.in_ok-others.others.items (sym c.in_ok-others.others.ok.0 ∙ eqb-true _ 0 (sym c.is_empty.ensures ∙ c.if-is_empty.true))) c.in_ok-others.ensures.older
+returns-then-is_empty g c =
+    let others = c.replaced.new.newer in
+    says_alone c.args.older.items c.args.newer.items c.replaced.new.older.items others.items c.replaced.ensures.says
+    (nil_from_length others.items (sym others.ok.0 ∙ eqb-true _ 0 (sym c.is_empty.ensures ∙ c.if-is_empty.true))) c.replaced.ensures.older
 
 pub returns : goal.returns
-returns g c = if_ok _ _ (λ es. says_same c.args.older.items c.args.newer.items c.replaced.new.older.items c.in_ok-others.others.items c.in_ok-others.ensures.says es.items) c.joined.result c.joined.ensures
+returns g c =
+    if_ok _ _ (λ es. says_same c.args.older.items c.args.newer.items c.replaced.new.older.items c.replaced.new.newer.items c.replaced.ensures.says es.items)
+    c.joined.result c.joined.ensures
