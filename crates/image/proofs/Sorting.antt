@@ -11,11 +11,11 @@ use Rattle.std.specs.List.{AllByRecursion, Contains, IsDistinct, list_any}
 use Rattle.std.specs.List.Sorted.{IsPermutation, IsSortedByKey}
 use Rattle.std.proofs.lemmas.List.{length-append}
 use Rattle.std.proofs.lemmas.List.Elements.{All-contains, Contains-append_right}
-use Rattle.std.proofs.lemmas.List.Sorted.{Contains-permutation, IsPermutation-map, length_permutation, list_any-IsPermutation}
+use Rattle.std.proofs.lemmas.List.Sorted.{Contains-permutation, IsPermutation-map, IsPermutation-refl, length_permutation, list_any-IsPermutation}
 use Rattle.std.proofs.lemmas.Map.Keys.{IsDistinct-cons, IsDistinct-head, IsDistinct-tail, IsDistinct-IsPermutation}
 use Rattle.procedure.specs.Bytes.{Bytes, Cell}
 use Rattle.procedure.specs.Table.{Changes, change_at, with_pairs}
-use Rattle.image.specs.Images.{AllPresent, Entry, Image, IsLawfulImage, SuitsKind, changes_of}
+use Rattle.image.specs.Images.{AllPresent, Entry, Image, IsLawfulImage, Rises, SuitsKind, changes_of}
 use Rattle.image.specs.Headers.{EachKeyOnce, map_of, of_captured}
 use Rattle.image.specs.declared.images.Kind.{Kind}
 use Rattle.image.specs.declared.images.Kind.TheVariants.{Full, Partial}
@@ -183,6 +183,27 @@ module _ (kind : Kind) (number base place : ℕ) (es ys : List Entry) (moved : I
   is_captured r lawful = (
     λ s. let here = lawful.0 s in (once_from_order es ys moved (rises here), subst (λ l. IsLawfulImage (of l)) (are_entries es ys moved (rises here)) here),
     λ x. lawful.1 (subst (λ l. IsLawfulImage (of l)) (sym (are_entries es ys moved (in_order x.0))) x.1),
+  )
+
+-- entries that are in order already
+module _ (kind : Kind) (number base place : ℕ) (es : List Entry) (ordered : Rises es) where
+  abbrev unmoved : Image
+  unmoved = record { kind = kind; number = number; base = base; place = place; entries = es }
+
+  are_sorted : T (is_sorted by_bytes es)
+  are_sorted = subst T (sym ordered) tt
+
+  same_image : unmoved ≡ of_captured kind number base place es
+  same_image = ap (λ (l : List Entry). record { kind = kind; number = number; base = base; place = place; entries = l }) (are_entries es es (IsPermutation-refl es) are_sorted)
+
+  pub is_of_ordered : (r : Option Image) → IfSome r (λ i. i ≡ unmoved) → IfSome r (λ i. i ≡ of_captured kind number base place es)
+  is_of_ordered None is = tt
+  is_of_ordered (Some i) is = is ∙ same_image
+
+  pub is_ordered : (r : Option Image) → (IsSome r ↔ IsLawfulImage unmoved) → IsSome r ↔ (EachKeyOnce es × IsLawfulImage (of_captured kind number base place es))
+  is_ordered r lawful = (
+    λ s. (once_from_order es es (IsPermutation-refl es) are_sorted, subst IsLawfulImage same_image (lawful.0 s)),
+    λ x. lawful.1 (subst IsLawfulImage (sym same_image) x.1),
   )
 
 -- ---- for the crates above: entries as they are captured one after another

@@ -3,7 +3,7 @@
 ghost use Rattle.std.specs.Prelude.{◌≡◌, ◌<◌, ◌↔◌, Err, IfOk, IfSome, IsSome, IsTrue, map, option_copied, Some};
 ghost use Rattle.procedure.specs.Table.{change_at};
 ghost use Rattle.std.specs.FinMap as finite;
-ghost use Rattle.image.specs.Images.{Image, IsLawfulImage, SuitsKind, changes_of, entries_of, full_image};
+ghost use Rattle.image.specs.Images.{Image, IsLawfulImage, Rises, SuitsKind, changes_of, entries_of, full_image};
 ghost use Rattle.image.specs.Headers.{EachKeyOnce, of_captured};
 ghost use Rattle.image.specs.Openings.{is_opening};
 ghost use Rattle.image.specs.declared.images.Kind.TheVariants.{Full};
@@ -105,10 +105,25 @@ impl<A: Allocator> Image<A> {
         ensures value { IfSome result (λ i. i ≡ record { kind = kind; number = number; base = base; place = place; entries = entries.items }) }
         ensures lawful { IsSome result ↔ IsLawfulImage (record { kind = kind; number = number; base = base; place = place; entries = entries.items }) }
     {
-        if entries.len() > ENTRIES
-            || !keys_rise(entries.as_slice())
-            || !suits_kind(kind, number, base, entries.as_slice())
-        {
+        if !keys_rise(entries.as_slice()) {
+            return None;
+        }
+        Image::of_rising(kind, number, base, place, entries)
+    }
+
+    /// As `new`, of entries whose keys strictly rise.
+    fn of_rising(
+        kind: Kind,
+        number: u64,
+        base: u64,
+        place: u64,
+        entries: Vec<Entry<A>, A>,
+    ) -> Option<Self>
+        requires { Rises entries.items }
+        ensures value { IfSome result (λ i. i ≡ record { kind = kind; number = number; base = base; place = place; entries = entries.items }) }
+        ensures lawful { IsSome result ↔ IsLawfulImage (record { kind = kind; number = number; base = base; place = place; entries = entries.items }) }
+    {
+        if entries.len() > ENTRIES || !suits_kind(kind, number, base, entries.as_slice()) {
             return None;
         }
         Some(Image {
@@ -121,7 +136,7 @@ impl<A: Allocator> Image<A> {
     }
 
     /// The image of entries that were captured in any order; None where it isn't lawful or a key comes
-    /// twice. It sorts them in place and takes no memory.
+    /// twice. It sorts them in place, where they aren't in order, and takes no memory.
     pub fn captured(
         kind: Kind,
         number: u64,
@@ -132,6 +147,9 @@ impl<A: Allocator> Image<A> {
         ensures value { IfSome result (λ i. i ≡ of_captured kind number base place entries.items) }
         ensures lawful { IsSome result ↔ (EachKeyOnce entries.items × IsLawfulImage (of_captured kind number base place entries.items)) }
     {
+        if keys_rise(entries.as_slice()) {
+            return Image::of_rising(kind, number, base, place, entries);
+        }
         sort_by_keys(&mut entries);
         Image::new(kind, number, base, place, entries)
     }
