@@ -65,7 +65,9 @@ impl<A: Allocator> CommandQueue<A> {
         ensures { OnOk result (self.new ≡ self.old ++ beginning head call ∷ []) }
     {
         self.heads.reserve(1)?;
-        self.calls.push_back(call)?;
+        // `push_back` would move it once more.
+        self.calls.reserve(1)?;
+        self.calls.push_back_reserved(call);
         self.heads.push_back_reserved(head);
         Ok(())
     }

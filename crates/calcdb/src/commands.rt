@@ -218,7 +218,10 @@ pub(crate) fn values_of<A: Allocator + Clone>(
     let mut values = Vec::with_capacity(alloc.clone()?, usize::from(likely))?;
     let mut rest = line;
     while let Some((word, behind)) = first_word(rest) {
-        values.push(held_of(alloc.clone()?, word)?)?;
+        let held = held_of(alloc.clone()?, word)?;
+        // `push` would move it once more.
+        values.reserve(1)?;
+        values.push_reserved(held);
         rest = behind;
     }
     values.shrink_to_fit();

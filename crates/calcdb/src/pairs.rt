@@ -32,6 +32,7 @@ use std::marker::Model;
 
 /// The key and the value that a line is.
 #[tactic(auto, unfolding(crate::specs::Pairs::pair_of))]
+#[inline(always)]
 fn pair_of<A: Allocator + Clone>(alloc: A, line: &[u8]) -> Result<(Key, Value<A>), Unread>
     ensures { ReadsAs (λ p. (p.0, p.1)) result (spec.pair_of (words line.now)) }
 {
@@ -44,6 +45,7 @@ fn pair_of<A: Allocator + Clone>(alloc: A, line: &[u8]) -> Result<(Key, Value<A>
 }
 
 /// The pair that a line is; None of one that is skipped.
+#[inline(always)]
 fn pair_in<A: Allocator + Clone>(alloc: &A, line: &[u8]) -> Result<Option<(Key, Value<A>)>, Unread>
     ensures { ReadsAs (option_map (λ p. (p.0, p.1))) result (spec.pair_in line.now) }
 {
@@ -137,6 +139,7 @@ impl<A: Allocator> Model for Listed<A> {
 
 impl<A: Allocator + Clone> Listed<A> {
     /// Adds a pair.
+    #[inline(always)]
     fn add(&mut self, key: Key, held: Value<A>) -> Result<(), Unread>
         ensures { ReadsAs (λ _. self.new) result (listed.with_pair self.old (key, held)) }
     {

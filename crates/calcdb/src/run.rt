@@ -83,6 +83,7 @@ fn go_on<A: Allocator + Clone>(core: &mut Core<A>, session: u16, count: usize) -
 }
 
 /// Begins a call, executes it and returns it.
+#[inline(always)]
 fn run_call<A: Allocator + Clone>(core: &mut Core<A>, call: NewCall<Arguments<A>>) -> Shown<A>
     ensures { Carried {A = A} (Calls core.old.catalog call) core.old core.new (shown_text core.new.log result) (images_shown result) }
 {

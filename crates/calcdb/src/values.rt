@@ -111,6 +111,7 @@ pub(crate) fn value_of<A: Allocator>(alloc: A, word: &[u8]) -> Result<Vec<u8, A>
 
 /// The key that a word is.
 #[tactic(auto, unfolding(crate::specs::Values::value_of))]
+#[inline(always)]
 pub(crate) fn key_of<A: Allocator>(alloc: A, word: &[u8]) -> Result<Key, Unread>
     ensures { ReadsAs (λ k. k) result (spec.key_of word.now) }
 {
