@@ -1,5 +1,6 @@
 pub mod Sharing
 pub mod Lookups
+pub mod Few
 pub mod Setting
 pub mod Tables
 pub mod Listing

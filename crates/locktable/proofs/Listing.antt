@@ -1,5 +1,5 @@
 -- The list of the keys that a session holds, after one of its locks changes.
-use Rattle.std.proofs.Common.{◌≡◌, ℕ, zero, suc, ◌<◌, arith, drop, get_or, length, inl, inr, Bool, true, false, ◌||◌, cond, List, [], ◌∷◌, ◌++◌, Option, Some, None, is_some, refl, sym, ap, ◌∙◌, subst, nat_eq}
+use Rattle.std.proofs.Common.{◌≡◌, ℕ, zero, suc, ◌<◌, ◌≤◌, ◌-◌, arith, drop, get_or, length, inl, inr, Bool, true, false, ◌||◌, cond, List, [], ◌∷◌, ◌++◌, Option, Some, None, is_some, refl, sym, ap, ◌∙◌, subst, nat_eq}
 use Rattle.std.proofs.lemmas.List.Folds.{list_any-append, list_any_at}
 use Rattle.std.proofs.lemmas.List.Sorted.{IsPermutation-append_comm, IsPermutation-swap_remove, list_any-IsPermutation}
 use Rattle.std.proofs.lemmas.Map.Keys.{IsDistinct-head, IsDistinct-tail, IsDistinct-push, IsDistinct-IsPermutation}
@@ -73,8 +73,22 @@ last_listed own rest k e = ap (list_any (same k)) e ∙ list_any-append (same k)
     last true = refl
     last false = refl
 
+-- the place before an index
+module _ (n index : ℕ) (within : index ≤ n) (some : 0 < index) where
+  pub before : index - 1 < n
+  before = omega arith
+
+  pub before_len : (len : ℕ) → len ≡ n → index - 1 < len
+  before_len len e = omega arith
+
+  pub still_within : index - 1 ≤ n
+  still_within = omega arith
+
+  pub after_before : index ≡ suc (index - 1)
+  after_before = omega arith
+
 -- the key at a place of the list
-drop_next : {X : Type 0} (xs : List X) (i : ℕ) (x : X) → i < length xs → x ≡ get_or xs i x → drop i xs ≡ x ∷ drop (suc i) xs
+pub drop_next : {X : Type 0} (xs : List X) (i : ℕ) (x : X) → i < length xs → x ≡ get_or xs i x → drop i xs ≡ x ∷ drop (suc i) xs
 drop_next [] i x h e = absurd (omega arith)
 drop_next (y ∷ ys) zero x h e = ap (λ z. z ∷ ys) (sym e)
 drop_next (y ∷ ys) (suc i) x h e = drop_next ys i x (omega arith) e

@@ -1,7 +1,9 @@
 -- How the holders of each key, and the keys that each session holds, stand for the locks.
-use Rattle.std.specs.Prelude.{◌≡◌, ℕ, suc, false, List, [], ◌∷◌, ◌++◌, map as list_map, length, Option, Some, None, is_some, slice_index_or}
+use Rattle.std.specs.Prelude.{◌≡◌, ℕ, suc, false, nat_eq, IsSome, List, [], ◌∷◌, ◌++◌, map as list_map, length, Option, Some, None, is_some, slice_index_or}
 use Rattle.std.specs.FinMap as map
+use Rattle.std.specs.Cmp.Lexicographic.{pointwise}
 use Rattle.std.specs.List.{IsDistinct, list_any}
+use Rattle.std.specs.Map.{keys_of, lookup}
 use Rattle.std.specs.declared.vec.Vec.{Vec}
 use Rattle.procedure.specs.Bytes.{Bytes, same}
 use Rattle.procedure.specs.Table.{KeyMap}
@@ -28,6 +30,11 @@ locks_from holders session (keys ∷ held) = modes_among holders session keys �
 -- what each session holds
 abbrev pub locks_in : KeyMap Holders → List (List Bytes) → Locks
 locks_in holders held = locks_from holders 0 held
+
+-- no key stands twice, in the list of few keys or there and in the map of the others
+pub record IsApart (few : List (Bytes × Holders)) (many : KeyMap Holders) : Type 0 where
+  pub once : IsDistinct (pointwise nat_eq) (keys_of few)
+  pub apart : (key : Bytes) → IsSome (lookup (pointwise nat_eq key) few) → map.get many key ≡ None
 
 pub record IsSound (holders : KeyMap Holders) (held : List (List Bytes)) : Type 0 where
   pub sessions : length held ≡ SESSIONS

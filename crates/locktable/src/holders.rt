@@ -1,11 +1,15 @@
 //! The sessions that hold a lock on one key.
 
-ghost use Rattle.std.specs.Prelude.{◌≡◌, ◌<◌, ◌↔◌, None, Some, IfSome, IsNone, IsSome, IsTrue};
+ghost use Rattle.std.specs.Prelude.{◌≡◌, ◌≢◌, ◌<◌, ◌↔◌, Err, None, Some, IfOk, IfSome, IsNone, IsSome, IsTrue, OnErr, OnOk};
 ghost use Rattle.locktable.specs.Holders.{ChangesTo, IsHeld, Refuses, mode_among, mode_in};
 ghost use Rattle.locktable.specs.Modes.{IsAtMost, stronger};
+ghost use Rattle.locktable.specs.Tables.{with_key};
 
-use crate::modes::Mode;
+use crate::errors::LockError;
+use crate::modes::{Mode, keeps_asked};
 use procedure::limits::SESSIONS;
+use procedure::{Key, NoMemory};
+use std::alloc::Allocator;
 
 /// The sessions that hold a lock on one key, told by one word: no session can be exclusive beside
 /// another.
@@ -126,4 +130,38 @@ pub(crate) fn is_nobody(holders: Option<Holders>) -> bool
         Some(_) => false,
         None => true,
     }
+}
+
+/// A session is granted a lock on a key that has holders, or it is refused. `own` are the keys that
+/// it holds.
+#[inline(always)]
+pub(crate) fn join<A: Allocator>(
+    holders: &mut Holders,
+    own: &mut Vec<Key, A>,
+    session: usize,
+    key: &Key,
+    mode: Mode,
+) -> Result<Option<Mode>, LockError>
+    requires { session < SESSIONS }
+    ensures before { IfOk result (λ before. before ≡ mode_in holders.old session) }
+    ensures granted { OnOk result (ChangesTo (Some holders.old) (Some holders.new) session (Some (stronger (mode_in holders.old session) mode))) }
+    ensures own { OnOk result (own.new.items ≡ with_key own.old.items key.now (mode_in holders.old session)) }
+    ensures refused { OnErr result (holders.new ≡ holders.old) }
+    ensures own_refused { OnErr result (own.new.items ≡ own.old.items) }
+    ensures conflict { result ≡ Err LockError.Conflict ↔ Refuses (Some holders.old) session mode }
+    ensures memory { IsSome (mode_in holders.old session) → result ≢ Err LockError.NoMemory }
+{
+    let held = mode_among(Some(*holders), session);
+    if keeps_asked(held, mode) {
+        return Ok(held);
+    }
+    let Some(after) = holders.with(session, mode) else {
+        return Err(LockError::Conflict);
+    };
+    if held.is_none() {
+        own.reserve(1).map_err(NoMemory::from)?;
+        own.push_reserved(*key);
+    }
+    *holders = after;
+    Ok(held)
 }

@@ -1,34 +1,38 @@
 //! The holders of each key that is held.
 
-ghost use Rattle.std.specs.Prelude.{◌≡◌, ◌≢◌, ◌<◌, ◌↔◌, Err, IfOk, IfSome, IsSome, OnErr, OnOk, Some, nat_eq, option_map, slice_get};
+ghost use Rattle.std.specs.Prelude.{◌≡◌, ◌≢◌, ◌<◌, ◌↔◌, Err, IfOk, IfNone, IfSome, IsSome, None, OnErr, OnOk, Some, nat_eq, slice_get};
 ghost use Rattle.std.specs.FinMap as map;
 ghost use Rattle.std.specs.Cmp.Lexicographic.{pointwise};
-ghost use Rattle.indexmap.specs.IndexMap.{get};
-ghost use Rattle.locktable.specs.Holders.{ChangesTo, Refuses, mode_among, mode_in};
+ghost use Rattle.std.specs.Map.{lookup};
+ghost use Rattle.locktable.specs.Holders.{Refuses, mode_among};
 ghost use Rattle.locktable.specs.Modes.{IsAtMost, stronger};
 ghost use Rattle.locktable.specs.Tables.{SetsMode, with_key};
 
 use crate::errors::LockError;
-use crate::holders::{Holders, mode_among};
-use crate::modes::{Mode, keeps_asked};
-use indexmap::IndexMap;
-use indexmap::map::Entry;
+use crate::holders::{Holders, join};
+use crate::many_holders::ManyHolders;
+use crate::modes::Mode;
 use procedure::limits::SESSIONS;
 use procedure::{Key, NoMemory};
 use std::alloc::Allocator;
-use std::hash::{BuildHasherDefault, FoldHasher};
 use std::marker::Model;
 
-type Entries<A> = IndexMap<Key, Holders, BuildHasherDefault<FoldHasher>, A>;
+/// How many keys are held before the map takes any. To look through them takes less than a hash.
+const FEW: usize = 8;
 
 /// The sessions that hold each key, seen by contracts as a finite map. A key that nobody holds
 /// takes no place.
 #[derive(Debug, Drop)]
 pub(crate) struct KeyHolders<A: Allocator> {
-    entries: Entries<A>,
+    /// The keys that are granted while few are held, in no order.
+    few: Vec<(Key, Holders), A>,
+    /// The keys that are granted while those are as many as they may be, and until it is empty
+    /// again.
+    many: ManyHolders<A>,
 }
 
 impl<A: Allocator> Model for KeyHolders<A> {
+    ghost use Rattle.std.specs.Prelude.{◌++◌};
     ghost use Rattle.std.specs.Coded.{coded_list, coded_ℕ};
     ghost use Rattle.std.specs.Ordering.{nat_cmp};
     ghost use Rattle.std.specs.Cmp.Lexicographic.{slice_cmp};
@@ -36,62 +40,32 @@ impl<A: Allocator> Model for KeyHolders<A> {
     ghost use Rattle.procedure.specs.Table.{KeyMap};
     ghost use Rattle.locktable.specs.declared.holders.Holders.{Holders as HoldersValue};
     ghost use Rattle.locktable.specs.contracts.holders.Holders as holders;
+    ghost use Rattle.locktable.specs.Tables.{IsApart};
 
     ghost Value = { KeyMap HoldersValue };
 
     ghost coded = { map.code {R = slice_cmp nat_cmp} (coded_list coded_ℕ) holders.the_row.coded };
 
-    ghost view = { λ h. map.from_entries {R = slice_cmp nat_cmp} h.entries.entries };
+    ghost view = { λ h. map.from_entries {R = slice_cmp nat_cmp} (h.few.items ++ map.entries h.many) };
+
+    ghost invariant = { λ h. IsApart h.few.items h.many };
 }
 
-/// A session is granted a lock on a key that has holders, or it is refused. `own` are the keys that
-/// it holds.
-fn join<A: Allocator>(
-    holders: &mut Holders,
-    own: &mut Vec<Key, A>,
-    session: usize,
-    key: &Key,
-    mode: Mode,
-) -> Result<Option<Mode>, LockError>
-    requires { session < SESSIONS }
-    ensures before { IfOk result (λ before. before ≡ mode_in holders.old session) }
-    ensures granted { OnOk result (ChangesTo (Some holders.old) (Some holders.new) session (Some (stronger (mode_in holders.old session) mode))) }
-    ensures own { OnOk result (own.new.items ≡ with_key own.old.items key.now (mode_in holders.old session)) }
-    ensures refused { OnErr result (holders.new ≡ holders.old) }
-    ensures own_refused { OnErr result (own.new.items ≡ own.old.items) }
-    ensures conflict { result ≡ Err LockError.Conflict ↔ Refuses (Some holders.old) session mode }
-    ensures memory { IsSome (mode_in holders.old session) → result ≢ Err LockError.NoMemory }
+/// Where a key stands among few, and who holds it. It is looked for from the end, since a session
+/// lets go of its last key first.
+fn position(few: &[(Key, Holders)], key: &Key) -> Option<(usize, Holders)>
+    ensures entry { IfSome result (λ p. slice_get few.now p.0 ≡ Some (key.now, p.1)) }
+    ensures absent { IfNone result (lookup (pointwise nat_eq key.now) few.now ≡ None) }
 {
-    let held = mode_among(Some(*holders), session);
-    if keeps_asked(held, mode) {
-        return Ok(held);
+    let mut index = few.len();
+    while index > 0 {
+        index -= 1;
+        let (there, holders) = &few[index];
+        if there == key {
+            return Some((index, *holders));
+        }
     }
-    let Some(after) = holders.with(session, mode) else {
-        return Err(LockError::Conflict);
-    };
-    if held.is_none() {
-        own.reserve(1).map_err(NoMemory::from)?;
-        own.push_reserved(*key);
-    }
-    *holders = after;
-    Ok(held)
-}
-
-/// Where a key stands, and who holds it. The last entry is looked at first, without a hash: a session lets go of
-/// its last key first, which mostly is the last one of all.
-#[inline(always)]
-fn position<A: Allocator>(entries: &Entries<A>, key: &Key) -> Option<(usize, Holders)>
-    ensures value { option_map (λ p. p.1) result ≡ get (pointwise nat_eq) entries.now key.now }
-    ensures entry { IfSome result (λ p. slice_get entries.now.entries p.0 ≡ Some (key.now, p.1)) }
-{
-    let last = entries.len().saturating_sub(1);
-    match entries.get_index(last) {
-        Some((there, holders)) if there == key => Some((last, *holders)),
-        _ => match entries.get_full(key) {
-            Some((index, _key, holders)) => Some((index, *holders)),
-            None => None,
-        },
-    }
+    None
 }
 
 impl<A: Allocator + Copy> KeyHolders<A> {
@@ -100,7 +74,8 @@ impl<A: Allocator + Copy> KeyHolders<A> {
         ensures { result ≡ map.empty }
     {
         KeyHolders {
-            entries: IndexMap::new(alloc),
+            few: Vec::new(alloc),
+            many: ManyHolders::new(alloc),
         }
     }
 }
@@ -110,7 +85,11 @@ impl<A: Allocator> KeyHolders<A> {
     pub(crate) fn get(&self, key: &Key) -> Option<Holders>
         ensures { result ≡ map.get self.now key.now }
     {
-        self.entries.get(key).copied()
+        match position(&self.few, key) {
+            Some((_index, holders)) => Some(holders),
+            None if self.many.is_empty() => None,
+            None => self.many.get(key),
+        }
     }
 
     /// A session asks for a key; `own` are the keys that it holds. Where it is granted, it holds the
@@ -132,16 +111,16 @@ impl<A: Allocator> KeyHolders<A> {
         ensures conflict { result ≡ Err LockError.Conflict ↔ Refuses (map.get self.old key.now) session mode }
         ensures memory { IsSome (mode_among (map.get self.old key.now) session) → result ≢ Err LockError.NoMemory }
     {
-        let Ok(entry) = self.entries.entry(*key) else {
-            return Err(LockError::NoMemory);
-        };
-        let entry = match entry {
-            Entry::Occupied(entry) => return join(entry.into_mut(), own, session, key, mode),
-            Entry::Vacant(entry) => entry,
-        };
+        if let Some((index, _holders)) = position(&self.few, key) {
+            return join(&mut self.few[index].1, own, session, key, mode);
+        }
+        if self.few.len() >= FEW || !self.many.is_empty() {
+            return self.many.grant(own, session, key, mode);
+        }
+        self.few.reserve(1).map_err(NoMemory::from)?;
         own.reserve(1).map_err(NoMemory::from)?;
         own.push_reserved(*key);
-        entry.insert(Holders::one(session, mode));
+        self.few.push_reserved((*key, Holders::one(session, mode)));
         Ok(None)
     }
 
@@ -152,16 +131,13 @@ impl<A: Allocator> KeyHolders<A> {
         requires weaker { IsAtMost mode (mode_among (map.get self.old key.now) session) }
         ensures { SetsMode self.old self.new session key.now mode }
     {
-        let Some((index, holders)) = position(&self.entries, key) else {
-            return;
+        let Some((index, holders)) = position(&self.few, key) else {
+            return self.many.weaken(session, key, mode);
         };
         match holders.weakened(session, mode) {
-            Some(after) => {
-                let (_key, place) = self.entries.pair_mut(index);
-                *place = after;
-            }
+            Some(after) => self.few[index].1 = after,
             None => {
-                let _last = self.entries.swap_remove_index(index);
+                let _gone = self.few.swap_remove(index);
             }
         }
     }
@@ -171,6 +147,6 @@ impl<A: Allocator> KeyHolders<A> {
 impl<A: Allocator> KeyHolders<A> {
     /// How many keys fit without a growth.
     pub(crate) fn capacity(&self) -> usize {
-        self.entries.capacity()
+        self.few.capacity().saturating_add(self.many.capacity())
     }
 }

@@ -10,6 +10,7 @@ mod holders;
 mod key_holders;
 pub mod laws;
 pub mod locks;
+mod many_holders;
 pub mod modes;
 #[cfg(test)]
 mod tests;

@@ -1,9 +1,10 @@
 //! Tests of what no clause says: that requests are granted where there is memory, and that memory is
 //! used again. The rows were worked out by hand.
-ghost use Rattle.std.specs.Prelude.{◌<◌};
+ghost use Rattle.std.specs.Prelude.{◌<◌, ◌≤◌};
 
 use super::*;
 use Mode::{Exclusive, Shared};
+use Order::{Backwards, BothEnds, Forwards};
 use Step::{Again, Asks, Refused, Released};
 use Who::{One, Three, Two};
 use procedure::limits::SESSIONS;
@@ -31,6 +32,15 @@ enum Step {
     Again(Who, Option<Mode>),
     /// It lets go of all its locks.
     Released(Who),
+}
+
+/// In which order sessions let go of their keys.
+#[derive(Clone, Copy, Debug)]
+enum Order {
+    Forwards,
+    Backwards,
+    /// The first, the last, the second, the last but one.
+    BothEnds,
 }
 
 const NOBODY: [Option<Mode>; 3] = [None, None, None];
@@ -239,6 +249,72 @@ fn many_keys(rt: HostRuntime) -> Result<(), Fail> {
         assert_eq!(rt; table.mode_of(5, &key), None, "key {byte}");
         assert_eq!(rt; table.mode_of(6, &key), left, "key {byte}");
         assert_eq!(rt; table.is_free(&key), left.is_none(), "key {byte}");
+    }
+    Ok(())
+}
+
+/// The session whose turn it is, of so many.
+fn session_at(turn: usize, sessions: usize, order: Order) -> usize
+    requires turn { turn < sessions }
+    requires sessions { sessions ≤ SESSIONS }
+    ensures { result < sessions }
+{
+    match order {
+        Forwards => turn,
+        Backwards => sessions - 1 - turn,
+        BothEnds if turn % 2 == 0 => turn / 2,
+        BothEnds => sessions - 1 - turn / 2,
+    }
+}
+
+/// Each of so many sessions has a key to itself; those before a turn let go of theirs.
+fn assert_held(
+    rt: &impl Abort,
+    table: &LockTable<Global>,
+    from: usize,
+    sessions: usize,
+    order: Order,
+) -> Result<(), Fail>
+    requires { sessions ≤ SESSIONS }
+{
+    for turn in 0..sessions {
+        let session = session_at(turn, sessions, order);
+        let mode = table.mode_of(session, &key(&[session as u8])?);
+        let wanted = if turn < from { None } else { Some(Exclusive) };
+        assert_eq!(rt;
+            mode,
+            wanted,
+            "{turn} of {sessions} {order:?}, from {from} on"
+        );
+    }
+    Ok(())
+}
+
+/// Each session takes a key, and lets go of it in its turn, once more after it took it again.
+fn run_turns(rt: &impl Abort, alloc: Global, sessions: usize, order: Order) -> Result<(), Fail>
+    requires { sessions ≤ SESSIONS }
+{
+    let mut table = LockTable::new(alloc)?;
+    for session in 0..sessions {
+        table.request(session, &key(&[session as u8])?, Exclusive)?;
+    }
+    for turn in 0..sessions {
+        assert_held(rt, &table, turn, sessions, order)?;
+        let session = session_at(turn, sessions, order);
+        table.release_all(session);
+        table.request(session, &key(&[session as u8])?, Shared)?;
+        table.release_all(session);
+    }
+    assert_held(rt, &table, sessions, sessions, order)
+}
+
+/// Few keys and many, and those numbers between at which the table begins to keep them otherwise.
+#[test]
+fn released_in_turn(rt: HostRuntime) -> Result<(), Fail> {
+    for sessions in 0..=20 {
+        for order in [Forwards, Backwards, BothEnds] {
+            run_turns(&rt, rt.alloc(), sessions, order)?;
+        }
     }
     Ok(())
 }

@@ -1,8 +1,8 @@
-use Rattle.std.proofs.Common.{◌≡◌, ◌≤◌, ◌<◌, ◌-◌, ℕ, suc, List, ◌∷◌, false, drop, length, refl, sym, ap, ◌∙◌, subst, arith, true≢false, IsPermutation}
+use Rattle.std.proofs.Common.{◌≡◌, ◌<◌, ◌-◌, List, ◌∷◌, false, drop, length, refl, sym, ap, ◌∙◌, subst, arith, true≢false, IsPermutation}
 use Rattle.std.proofs.Math.Seq.{drop-length}
 use Rattle.std.specs.List.{list_any}
 use Rattle.procedure.specs.Bytes.{Bytes, same}
-use Rattle.locktable.proofs.Listing.{found_listed, found_there, not_from}
+use Rattle.locktable.proofs.Listing.{after_before, before, before_len, found_listed, found_there, not_from, still_within}
 use Rattle.locktable.proofs.locks.take_out.Given.{Over}
 use Rattle.locktable.proofs.locks.take_out.Goals as goal
 use Rattle.locktable.proofs.locks.take_out.Goals.{After-index}
@@ -13,29 +13,15 @@ loop-index-init g c =
     let all : c.len-index.result ≡ length keys.items = c.len-index.ensures ∙ keys.ok.0 in
     (refl, omega (arith, all), ap (λ n. list_any (same c.args.key.now) (drop n keys.items)) all ∙ ap (list_any (same c.args.key.now)) (drop-length keys.items))
 
--- the place before an index
-module _ (n index len : ℕ) (within : index ≤ n) (some : 0 < index) where
-  before : index - 1 < n
-  before = omega arith
-
-  before_len : len ≡ n → index - 1 < len
-  before_len e = omega arith
-
-  still_within : index - 1 ≤ n
-  still_within = omega arith
-
-  after_before : index ≡ suc (index - 1)
-  after_before = omega arith
-
 pub index-requires : goal.index-requires
-index-requires g c = before_len (length c.loop-index.keys.items) c.loop-index.index c.loop-index.keys.len c.loop-index.invariant.1 c.loop-index-test.true c.loop-index.keys.ok.0
+index-requires g c = before_len (length c.loop-index.keys.items) c.loop-index.index c.loop-index.invariant.1 c.loop-index-test.true c.loop-index.keys.len c.loop-index.keys.ok.0
 
 pub swap_remove-key-requires : goal.swap_remove-key-requires
-swap_remove-key-requires g c = before_len (length c.loop-index.keys.items) c.loop-index.index c.loop-index.keys.len c.loop-index.invariant.1 c.loop-index-test.true c.loop-index.keys.ok.0
+swap_remove-key-requires g c = before_len (length c.loop-index.keys.items) c.loop-index.index c.loop-index.invariant.1 c.loop-index-test.true c.loop-index.keys.len c.loop-index.keys.ok.0
 
 -- the key that is looked at is one of the list
 looked_at : (g : Over) (c : After-index g) → c.loop-index.index - 1 < length c.loop-index.keys.items
-looked_at g c = before (length c.loop-index.keys.items) c.loop-index.index 0 c.loop-index.invariant.1 c.loop-index-test.true
+looked_at g c = before (length c.loop-index.keys.items) c.loop-index.index c.loop-index.invariant.1 c.loop-index-test.true
 
 pub returns-then-eq-clause-there : goal.returns-then-eq-clause-there
 returns-then-eq-clause-there g c listed =
@@ -60,9 +46,9 @@ loop-index-preserved g c =
     let own = c.loop-index.keys.items in
     let k = c.args.key.now in
     let i = c.loop-index.index - 1 in
-    let next = after_before (length own) c.loop-index.index 0 c.loop-index.invariant.1 c.loop-index-test.true in (
+    let next = after_before (length own) c.loop-index.index c.loop-index.invariant.1 c.loop-index-test.true in (
       c.loop-index.invariant.0,
-      still_within (length own) c.loop-index.index 0 c.loop-index.invariant.1 c.loop-index-test.true,
+      still_within (length own) c.loop-index.index c.loop-index.invariant.1 c.loop-index-test.true,
       not_from own k i (looked_at g (goal.at.loop-index-preserved g c).After-index)
           c.index.result.now c.index.ensures (subst (λ n. list_any (same k) (drop n own) ≡ false) next c.loop-index.invariant.2) (sym c.eq.ensures ∙ c.if-eq.false),
     )
