@@ -17,7 +17,8 @@ use procedure::{Key, NoMemory};
 use std::alloc::Allocator;
 use std::marker::Model;
 
-/// How many keys are held before the map takes any. To look through them takes less than a hash.
+/// How many keys are held before the map takes any. To look through so many takes no longer than to
+/// hash one, and mostly fewer are held.
 const FEW: usize = 8;
 
 /// The sessions that hold each key, seen by contracts as a finite map. A key that nobody holds
