@@ -1,5 +1,6 @@
 pub mod Tournaments
 pub mod Offers
+pub mod Joined
 pub mod Fields
 pub mod Seen
 pub mod Making

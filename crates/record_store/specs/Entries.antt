@@ -6,73 +6,86 @@ use Rattle.procedure.specs.Bytes.{Bytes, Cell}
 use Rattle.record_store.specs.Stores.{StoreRecord}
 use Rattle.record_store.specs.declared.records.Stable.{Stable}
 use Rattle.record_store.specs.declared.records.Stable.TheVariants.{Empty, Was}
-use Rattle.record_store.specs.declared.records.Entry.{Entry}
 use Rattle.record_store.specs.declared.records.Record.{Record as Lent}
 
-module _ {A : Type 0} where
-  -- the entry in a slot
-  abbrev pub entry_at : List (Option (Entry A)) → ℕ → Option (Entry A)
-  entry_at slots slot = slice_index_or slots slot None
+-- a record as the store keeps it. It is available where its mark is the store's number, and its stable version counts where it was
+-- copied under that number
+pub record Entry : Type 0 where
+  pub key : Bytes
+  pub live : Cell
+  pub stable : Cell
+  pub copied : ℕ
+  pub mark : ℕ
+  pub aside : Bool
 
-  -- how many slots have an entry
-  abbrev pub taken : List (Option (Entry A)) → ℕ
-  taken slots = count_by is_some slots
+-- the slots, and how many can be added without memory
+pub record Entries : Type 0 where
+  pub items : List (Option Entry)
+  pub room : ℕ
 
-  abbrev pub stable_seen : ℕ → Entry A → Stable Cell
-  stable_seen number e = if e.copied == number then Was e.stable else Empty
+-- the entry in a slot
+abbrev pub entry_at : List (Option Entry) → ℕ → Option Entry
+entry_at slots slot = slice_index_or slots slot None
 
-  -- the record that an entry stands for, under the store's number
-  abbrev pub seen : ℕ → Entry A → StoreRecord
-  seen number e = record { key = e.key; live = e.live; stable = stable_seen number e; available = e.mark == number; aside = e.aside }
+-- how many slots have an entry
+abbrev pub taken : List (Option Entry) → ℕ
+taken slots = count_by is_some slots
 
-  abbrev pub made : Bytes → ℕ → Entry A
-  made key mark = record { key = key; live = None; stable = None; copied = 0; mark = mark; aside = true }
+abbrev pub stable_seen : ℕ → Entry → Stable Cell
+stable_seen number e = if e.copied == number then Was e.stable else Empty
 
-  -- the key that an entry offers for reclaim
-  abbrev pub offer_of : Entry A → Option Bytes
-  offer_of e = if is_none e.live && not e.aside then Some e.key else None
+-- the record that an entry stands for, under the store's number
+abbrev pub seen : ℕ → Entry → StoreRecord
+seen number e = record { key = e.key; live = e.live; stable = stable_seen number e; available = e.mark == number; aside = e.aside }
 
-  abbrev pub live_of : Option (Entry A) → Cell
-  live_of o = option_and_then (λ e. e.live) o
+abbrev pub made : Bytes → ℕ → Entry
+made key mark = record { key = key; live = None; stable = None; copied = 0; mark = mark; aside = true }
 
-  -- how many slots have an entry that isn't dead
-  abbrev pub live_entries : List (Option (Entry A)) → ℕ
-  live_entries slots = count_by (λ (o : Option (Entry A)). is_some (live_of o)) slots
+-- the key that an entry offers for reclaim
+abbrev pub offer_of : Entry → Option Bytes
+offer_of e = if is_none e.live && not e.aside then Some e.key else None
 
-  -- the entry in the slot is changed so
-  abbrev pub entry_changed : (Entry A → Entry A) → List (Option (Entry A)) → ℕ → List (Option (Entry A))
-  entry_changed f slots slot = slice_set slots slot (option_map f (entry_at slots slot))
+abbrev pub live_of : Option Entry → Cell
+live_of o = option_and_then (λ e. e.live) o
 
-  -- the slot has the entry, and every other slot what it had
-  pub record IsPut (old new : List (Option (Entry A))) (slot : ℕ) (e : Entry A) : Type 0 where
-    pub here : entry_at new slot ≡ Some e
-    pub others : (other : ℕ) → other ≢ slot → entry_at new other ≡ entry_at old other
+-- how many slots have an entry that isn't dead
+abbrev pub live_entries : List (Option Entry) → ℕ
+live_entries slots = count_by (λ (o : Option Entry). is_some (live_of o)) slots
 
-  abbrev pub with_entry_live : Cell → Entry A → Entry A
-  with_entry_live live e = record e { live = live }
+-- the entry in the slot is changed so
+abbrev pub entry_changed : (Entry → Entry) → List (Option Entry) → ℕ → List (Option Entry)
+entry_changed f slots slot = slice_set slots slot (option_map f (entry_at slots slot))
 
-  abbrev pub with_entry_stable : Cell → ℕ → Entry A → Entry A
-  with_entry_stable stable copied e = record e { stable = stable; copied = copied }
+-- the slot has the entry, and every other slot what it had
+pub record IsPut (old new : List (Option Entry)) (slot : ℕ) (e : Entry) : Type 0 where
+  pub here : entry_at new slot ≡ Some e
+  pub others : (other : ℕ) → other ≢ slot → entry_at new other ≡ entry_at old other
 
-  abbrev pub with_entry_copy : ℕ → Entry A → Entry A
-  with_entry_copy number e = record e { stable = e.live; copied = number }
+abbrev pub with_entry_live : Cell → Entry → Entry
+with_entry_live live e = record e { live = live }
 
-  abbrev pub with_entry_mark : ℕ → Entry A → Entry A
-  with_entry_mark mark e = record e { mark = mark }
+abbrev pub with_entry_stable : Cell → ℕ → Entry → Entry
+with_entry_stable stable copied e = record e { stable = stable; copied = copied }
 
-  abbrev pub with_entry_aside : Bool → Entry A → Entry A
-  with_entry_aside aside e = record e { aside = aside }
+abbrev pub with_entry_copy : ℕ → Entry → Entry
+with_entry_copy number e = record e { stable = e.live; copied = number }
 
-  -- neither available nor with a stable version, under any number
-  abbrev pub cleaned : Entry A → Entry A
-  cleaned e = record e { stable = None; copied = 0; mark = 0 }
+abbrev pub with_entry_mark : ℕ → Entry → Entry
+with_entry_mark mark e = record e { mark = mark }
 
-  abbrev pub key_if_dead : Entry A → Option Bytes
-  key_if_dead e = if is_none e.live then Some e.key else None
+abbrev pub with_entry_aside : Bool → Entry → Entry
+with_entry_aside aside e = record e { aside = aside }
 
-  abbrev pub stable_in : ℕ → Option (Entry A) → Stable Cell
-  stable_in number None = Empty
-  stable_in number (Some e) = stable_seen number e
+-- neither available nor with a stable version, under any number
+abbrev pub cleaned : Entry → Entry
+cleaned e = record e { stable = None; copied = 0; mark = 0 }
+
+abbrev pub key_if_dead : Entry → Option Bytes
+key_if_dead e = if is_none e.live then Some e.key else None
+
+abbrev pub stable_in : ℕ → Option Entry → Stable Cell
+stable_in number None = Empty
+stable_in number (Some e) = stable_seen number e
 
 -- what was lent of a stable version
 abbrev pub lent_stable : Stable (Option (Bor Bytes)) → Stable Cell

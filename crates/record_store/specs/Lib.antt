@@ -2,6 +2,8 @@ pub mod DeadKeys
 pub mod Stores
 pub mod Versions
 pub mod Entries
+pub mod KeptRecords
+pub mod EntryFields
 pub mod Fields
 pub mod ChangedSets
 pub mod ChangedFields

@@ -4,6 +4,8 @@
 
 pub mod changed_sets;
 mod dead_keys;
+mod entries;
+mod kept;
 pub mod laws;
 pub mod limits;
 pub mod records;

@@ -15,12 +15,12 @@ ghost use Rattle.record_store.specs.declared.stores.CreateError.TheVariants.{Tab
 mod number_tests;
 
 use crate::dead_keys::DeadKeys;
-use crate::limits::STORE_RECORDS;
-use crate::records;
-use crate::records::{
-    Entry, Record, Slot, Stable, clean_all, copy_of_live, dead_key, lent, renew_offer,
-    renew_offer_where, vacate,
+use crate::entries;
+use crate::entries::{
+    Entries, clean_all, copy_of_live, dead_key, lent, renew_offer, renew_offer_where, vacate,
 };
+use crate::limits::STORE_RECORDS;
+use crate::records::{Record, Stable};
 use indexmap::IndexMap;
 use procedure::{Key, NoMemory, Value};
 use std::alloc::Allocator;
@@ -67,7 +67,7 @@ impl From<NoMemory> for CreateError {
 /// take the slot's number; where the slot is vacant they change nothing.
 #[derive(Drop)]
 pub struct Store<A: Allocator> {
-    slots: Vec<Slot<A>, A>,
+    slots: Entries<A>,
     records: usize,
     // From place `records` on, the vacant slots, the one to be used next first. What stands before
     // says nothing; it keeps a place for each slot, so that a reclaim takes no memory.
@@ -95,7 +95,7 @@ impl<A: Allocator + Copy> Store<A> {
         ensures { result ≡ [] }
     {
         Store {
-            slots: Vec::new(alloc),
+            slots: Entries::new(alloc),
             records: 0,
             vacant: Vec::new(alloc),
             index: IndexMap::new(alloc),
@@ -109,7 +109,7 @@ impl<A: Allocator + Copy> Store<A> {
         ensures { IfOk result (λ store. store ≡ []) }
     {
         let records = 0;
-        let slots = Vec::with_capacity(alloc, capacity)?;
+        let slots = Entries::with_capacity(alloc, capacity)?;
         let vacant = Vec::with_capacity(alloc, capacity)?;
         let index = IndexMap::with_capacity(alloc, capacity)?;
         let mut dead = DeadKeys::new(alloc);
@@ -153,7 +153,7 @@ impl<A: Allocator> Store<A> {
     pub fn live_count(&self) -> usize
         ensures { result ≡ live_count self.now }
     {
-        records::live_among(&self.slots)
+        entries::live_among(&self.slots)
     }
 
     /// The slot of the key's record. No two slots have the same key.
@@ -179,7 +179,7 @@ impl<A: Allocator> Store<A> {
         ensures changed { self.new ≡ changed (with_live live) self.old slot }
     {
         let lives = live.is_some();
-        let before = records::set_live(&mut self.slots, slot, live);
+        let before = entries::set_live(&mut self.slots, slot, live);
         let turned = before.is_some() != lives;
         renew_offer_where(turned, &self.slots, &mut self.dead, slot);
         before
@@ -195,7 +195,7 @@ impl<A: Allocator> Store<A> {
     pub fn erase_stable(&mut self, slot: usize)
         ensures { self.new ≡ changed (with_stable Empty) self.old slot }
     {
-        records::set_stable(&mut self.slots, slot, None, 0);
+        entries::erase_stable(&mut self.slots, slot);
     }
 
     /// The stable version goes to the caller, and none is left.
@@ -203,21 +203,21 @@ impl<A: Allocator> Store<A> {
         ensures value { result ≡ stable_at self.old slot }
         ensures changed { self.new ≡ changed (with_stable Empty) self.old slot }
     {
-        records::take_stable(&mut self.slots, slot, self.number)
+        entries::take_stable(&mut self.slots, slot, self.number)
     }
 
     /// Puts a stable version back that was taken. It takes no memory.
     pub fn put_stable(&mut self, slot: usize, stable: Option<Value<A>>)
         ensures { self.new ≡ changed (with_stable (Was stable)) self.old slot }
     {
-        records::set_stable(&mut self.slots, slot, stable, self.number);
+        entries::set_stable(&mut self.slots, slot, stable, self.number);
     }
 
     pub fn set_available(&mut self, slot: usize, available: bool)
         ensures { self.new ≡ changed (with_available available) self.old slot }
     {
         let mark = mark_of(self.number, available);
-        records::set_mark(&mut self.slots, slot, mark);
+        entries::set_mark(&mut self.slots, slot, mark);
     }
 
     /// Every record becomes not available and without a stable version. It takes constant time, but
@@ -246,7 +246,7 @@ impl<A: Allocator> Store<A> {
     pub fn set_aside(&mut self, slot: usize)
         ensures { self.new ≡ changed (with_aside true) self.old slot }
     {
-        records::set_aside(&mut self.slots, slot, true);
+        entries::set_aside(&mut self.slots, slot, true);
         renew_offer(&self.slots, &mut self.dead, slot);
     }
 
@@ -254,7 +254,7 @@ impl<A: Allocator> Store<A> {
     pub fn reconsider(&mut self, slot: usize)
         ensures { self.new ≡ changed (with_aside false) self.old slot }
     {
-        records::set_aside(&mut self.slots, slot, false);
+        entries::set_aside(&mut self.slots, slot, false);
         renew_offer(&self.slots, &mut self.dead, slot);
     }
 
@@ -290,7 +290,7 @@ fn next_slot(vacant: &[usize], records: usize) -> usize
 
 /// Makes room for a record in the slot, which may be one more.
 fn make_room<A: Allocator + Clone>(
-    slots: &mut Vec<Slot<A>, A>,
+    slots: &mut Entries<A>,
     vacant: &mut Vec<usize, A>,
     index: &mut Index<A>,
     dead: &mut DeadKeys<A>,
@@ -303,12 +303,12 @@ fn make_room<A: Allocator + Clone>(
     ensures places { length dead.old ≤ length dead.new }
     ensures spare { OnOk result (0 < spare index.new) }
     ensures place { OnOk result (slot < length dead.new) }
-    ensures room { OnOk result (slot ≡ length slots.old.items → (slot < vec_capacity slots.new) × (length vacant.old.items < vec_capacity vacant.new)) }
+    ensures room { OnOk result (slot ≡ length slots.old.items → (0 < slots.new.room) × (length vacant.old.items < vec_capacity vacant.new)) }
 {
     index.reserve(1)?;
     dead.make_place(slot)?;
     if slot == slots.len() {
-        slots.reserve(1)?;
+        slots.reserve()?;
         vacant.reserve(1)?;
     }
     Ok(())
@@ -346,8 +346,8 @@ impl<A: Allocator + Clone> Store<A> {
             &mut self.dead,
             slot,
         )?;
-        let entry = Entry::new(key, mark_of(self.number, available));
-        records::put(&mut self.slots, &mut self.vacant, slot, entry);
+        let mark = mark_of(self.number, available);
+        entries::put(&mut self.slots, &mut self.vacant, slot, key, mark);
         note_slot(&mut self.index, key, slot);
         self.records += 1;
         Ok(slot)
@@ -361,7 +361,7 @@ impl<A: Allocator + Clone> Store<A> {
         ensures memory { OnErr result (IsSome (live_at self.old slot)) }
     {
         let copy = copy_of_live(&self.slots, slot)?;
-        records::set_stable(&mut self.slots, slot, copy, self.number);
+        entries::set_stable(&mut self.slots, slot, copy, self.number);
         Ok(())
     }
 }

@@ -1,8 +1,7 @@
-use Rattle.std.proofs.Common.{IsSome, List, Option, arith, ap, refl, sym, ◌∙◌, subst}
+use Rattle.std.proofs.Common.{IsSome, arith, ap, refl, sym, ◌∙◌, subst}
 use Rattle.procedure.specs.Bytes.{Cell}
 use Rattle.record_store.specs.Stores.{Slots, changed, live_at, with_copy}
-use Rattle.record_store.specs.Entries.{entry_at, live_of, with_entry_stable, with_entry_copy}
-use Rattle.record_store.specs.declared.records.Entry.{Entry}
+use Rattle.record_store.specs.Entries.{with_entry_stable, with_entry_copy}
 use Rattle.record_store.specs.declared.stores.Store.TheInside.{Inside}
 use Rattle.record_store.proofs.Fields.{changed_sound, changed_view, live_is, offers_kept, on_err, copied_entry}
 use Rattle.record_store.proofs.Seen.{seen_copied}
@@ -11,8 +10,7 @@ use Rattle.record_store.proofs.stores.Store.copy_stable.Goals as goal
 pub returns-in_err-copy-clause-memory : goal.returns-in_err-copy-clause-memory
 returns-in_err-copy-clause-memory g c =
     on_err c.from_residual.result (subst (λ (x : Cell). IsSome x)
-    (ap (λ (x : List (Option (Entry g.row.A.Denot))). live_of (entry_at x c.args.slot)) c.deref.ensures.value
-    ∙ sym (live_is c.self.inside c.args.slot) ∙ ap (λ (slots : Slots). live_at slots c.args.slot) c.self.view_is)
+    (sym (live_is c.self.inside c.args.slot) ∙ ap (λ (slots : Slots). live_at slots c.args.slot) c.self.view_is)
     c.in_err-copy.ensures.memory)
 
 pub invariant_of-self : goal.invariant_of-self
@@ -27,5 +25,5 @@ returns-clause-ok g c =
     let new : Inside g.row.A.Denot = record c.self.inside { slots = c.set_stable.new.slots } in
     changed_view c.self.inside new (with_entry_copy c.self.inside.number) with_copy c.args.slot refl
     (c.set_stable.ensures ∙ copied_entry c.self.inside.slots.items c.args.slot c.self.inside.number c.in_ok-copy.copy
-    (c.in_ok-copy.ensures.value ∙ ap (λ (x : List (Option (Entry g.row.A.Denot))). live_of (entry_at x c.args.slot)) c.deref.ensures.value)) (λ e. seen_copied c.self.inside.number e)
+    c.in_ok-copy.ensures.value) (λ e. seen_copied c.self.inside.number e)
     ∙ ap (λ (slots : Slots). changed with_copy slots c.args.slot) c.self.view_is

@@ -2,8 +2,7 @@ use Rattle.std.proofs.Common.{◌≡◌, ℕ, List, Option, Some, refl, ap, leng
 use Rattle.std.proofs.lemmas.Result.{err_from_is_err_and}
 use Rattle.std.specs.Cmp.Lexicographic.{pointwise}
 use Rattle.record_store.specs.Stores.{Slots, key_at, records, new_record, with_record}
-use Rattle.record_store.specs.Entries.{entry_at, taken}
-use Rattle.record_store.specs.declared.records.Entry.{Entry}
+use Rattle.record_store.specs.Entries.{Entry, entry_at, taken}
 use Rattle.record_store.specs.declared.stores.Store.TheInside.{Inside}
 use Rattle.record_store.proofs.Fields.{key_is, not_found, records_are}
 use Rattle.record_store.proofs.Making.{IsMade, IsNext, found_kept, made_length, made_sound, made_view, next_is, roomy_sound}
@@ -33,14 +32,14 @@ next g c =
     subst (IsNext c.self.inside.slots.items c.self.inside.vacant.items c.self.inside.records)
     (sym (c.next_slot-slot.ensures ∙ ap (λ (vs : List ℕ). slice_index_or vs c.self.inside.records (length vs)) c.deref.ensures.value)) (next_is c.self.inside c.self.invariant)
 
-made_so : (g : Over) (c : goal.After-self-1 g) → IsMade c.self.inside (after g c) c.next_slot-slot.result c.args.key c.mark_of.result
+made_so : (g : Over) (c : goal.After-self-1 g) → IsMade c.self.inside (after g c) c.next_slot-slot.result c.args.key c.mark_of-mark.result
 made_so g c =
     let slots = c.make_room.ensures.slots in
     let vacant = c.make_room.ensures.vacant in
     record {
       next = next g c;
-      put = c.put.ensures.put.here ∙ ap (λ (e : Entry g.row.A.Denot). Some e) c.new-entry.ensures;
-      others = λ i differs. c.put.ensures.put.others i differs ∙ ap (λ (x : List (Option (Entry g.row.A.Denot))). entry_at x i) slots;
+      put = c.put.ensures.put.here;
+      others = λ i differs. c.put.ensures.put.others i differs ∙ ap (λ (x : List (Option Entry)). entry_at x i) slots;
       len = omega (arith, c.put.ensures.len, ap length slots);
       count = omega (arith, c.put.ensures.taken, ap taken slots);
       known = λ below. c.put.ensures.known (omega (arith, below, ap length slots)) ∙ vacant;
@@ -54,21 +53,21 @@ made_so g c =
       place = c.in_ok-make_room.ensures.place;
       places = c.make_room.ensures.places;
       number = refl;
-      bound = mark_most c.self.inside.number c.args.available c.mark_of.result c.mark_of.ensures;
+      bound = mark_most c.self.inside.number c.args.available c.mark_of-mark.result c.mark_of-mark.ensures;
     }
 
 pub invariant_of-self-2 : goal.invariant_of-self-2
-invariant_of-self-2 g c = made_sound c.self.inside (after g c) c.next_slot-slot.result c.args.key c.mark_of.result c.self.invariant (made_so g c)
+invariant_of-self-2 g c = made_sound c.self.inside (after g c) c.next_slot-slot.result c.args.key c.mark_of-mark.result c.self.invariant (made_so g c)
 
 pub returns-clause-ok : goal.returns-clause-ok
 returns-clause-ok g c =
-    made_view c.self.inside (after g c) c.next_slot-slot.result c.args.key c.mark_of.result c.self.invariant (made_so g c) c.args.available c.mark_of.ensures
+    made_view c.self.inside (after g c) c.next_slot-slot.result c.args.key c.mark_of-mark.result c.self.invariant (made_so g c) c.args.available c.mark_of-mark.ensures
     ∙ ap (λ (slots : Slots). with_record slots c.next_slot-slot.result (new_record c.args.key c.args.available)) c.self.view_is
 
 pub returns-clause-slots : goal.returns-clause-slots
 returns-clause-slots g c =
     let is : records c.args.self.now ≡ c.self.inside.records = sym (ap records c.self.view_is) ∙ records_are c.self.inside c.self.invariant in
-    made_length c.self.inside (after g c) c.next_slot-slot.result c.args.key c.mark_of.result c.self.invariant (made_so g c)
+    made_length c.self.inside (after g c) c.next_slot-slot.result c.args.key c.mark_of-mark.result c.self.invariant (made_so g c)
     ∙ ap (λ (slots : Slots). max (length slots) (c.self.inside.records + 1)) c.self.view_is ∙ ap (λ (n : ℕ). max (length c.args.self.now) (n + 1)) (sym is)
 
 pub returns-clause-full : goal.returns-clause-full

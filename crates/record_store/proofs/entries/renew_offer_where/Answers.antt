@@ -1,6 +1,6 @@
 use Rattle.std.proofs.Common.{ap, sym, ◌∙◌, slice_set}
 use Rattle.std.proofs.lemmas.List.{set-get_or}
-use Rattle.record_store.proofs.records.renew_offer_where.Goals as goal
+use Rattle.record_store.proofs.entries.renew_offer_where.Goals as goal
 
 pub returns-else-turned : goal.returns-else-turned
 returns-else-turned g c =

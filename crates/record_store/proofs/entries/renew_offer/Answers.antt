@@ -2,7 +2,7 @@ use Rattle.std.proofs.Common.{ap, sym, ◌∙◌, slice_set}
 use Rattle.std.proofs.lemmas.List.{set-get_or}
 use Rattle.record_store.specs.DeadKeys.{offer_at}
 use Rattle.record_store.proofs.Offers.{same_offer}
-use Rattle.record_store.proofs.records.renew_offer.Goals as goal
+use Rattle.record_store.proofs.entries.renew_offer.Goals as goal
 
 pub returns-else-is_some-offers : goal.returns-else-is_some-offers
 returns-else-is_some-offers g c =

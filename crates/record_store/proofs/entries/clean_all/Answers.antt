@@ -1,8 +1,8 @@
 use Rattle.std.proofs.Common.{arith}
 use Rattle.record_store.proofs.Fields.{cleaned_all}
-use Rattle.record_store.proofs.records.clean_all.Goals as goal
+use Rattle.record_store.proofs.entries.clean_all.Goals as goal
 
 pub returns : goal.returns
 returns g c =
     cleaned_all c.args.slots.now.items c.loop-slot.slots.items c.loop-slot.invariant.len
-    (λ slot below. c.loop-slot.invariant.done slot (omega (arith, c.loop-slot-test.false, c.len-slot-end.ensures, c.args.slots.now.ok.0)))
+    (λ slot below. c.loop-slot.invariant.done slot (omega (arith, c.loop-slot-test.false, c.len-slot-end.ensures)))

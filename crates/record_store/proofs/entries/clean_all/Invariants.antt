@@ -1,6 +1,6 @@
 use Rattle.std.proofs.Common.{◌≡◌, ℕ, ◌<◌, ◌≤◌, length, option_map}
 use Rattle.record_store.specs.Entries.{cleaned, entry_at}
-use Rattle.record_store.proofs.records.clean_all.Given as goal
+use Rattle.record_store.proofs.entries.clean_all.Given as goal
 
 abbrev pub invariant-loop-slot : goal.invariant-loop-slot
 invariant-loop-slot g l = record {
