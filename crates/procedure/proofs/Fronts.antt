@@ -143,7 +143,7 @@ deleting_becomes rs None found = refl
 deleting_becomes rs (Some k) None = refl
 deleting_becomes rs (Some k) (Some w) = refl
 
-either_becomes : (b : Bool) (e f : Effect) → e.becomes ≡ None → f.becomes ≡ None → (cond b e f).becomes ≡ None
+pub either_becomes : (b : Bool) (e f : Effect) → e.becomes ≡ None → f.becomes ≡ None → (cond b e f).becomes ≡ None
 either_becomes true e f p q = p
 either_becomes false e f p q = q
 

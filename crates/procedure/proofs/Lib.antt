@@ -14,5 +14,6 @@ pub mod Slices
 pub mod Passes
 pub mod Fronts
 pub mod Bounds
+pub mod Writes
 pub mod WriteProgress
 pub mod TakenBytes

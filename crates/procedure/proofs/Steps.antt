@@ -30,7 +30,7 @@ some_left [] place h = absurd (omega arith)
 some_left (i ∷ is) zero h = refl
 some_left (i ∷ is) (suc n) h = some_left is n (omega arith)
 
-none_left : (code : List Instruction) (place : ℕ) → length code ≤ place → drop place code ≡ []
+pub none_left : (code : List Instruction) (place : ℕ) → length code ≤ place → drop place code ≡ []
 none_left [] place h = drop-nil place
 none_left (i ∷ is) zero h = absurd (omega arith)
 none_left (i ∷ is) (suc n) h = none_left is n (omega arith)

@@ -167,6 +167,42 @@ pub(crate) fn gives_value<A: Allocator>(
     }
 }
 
+/// What the key of an instruction becomes, where it holds `found`; None where it stays. A value that is
+/// written is copied.
+#[tactic(auto, unfolding(crate::specs::Procedures::need))]
+pub(crate) fn becomes<A: Allocator + Clone>(
+    instruction: &Instr<Value<A>>,
+    args: &[Value<A>],
+    registers: &[Option<Value<A>>],
+    found: Option<&Value<A>>,
+) -> Result<Option<Option<Value<A>>>, NoMemory>
+    ensures value { IfOk result (λ b. b ≡ becomes_of (need instruction.now args.now registers.now) (option_copied found.entry)) }
+    ensures memory { OnErr result (HasValue (need instruction.now args.now registers.now)) }
+{
+    let becomes = match instruction {
+        Instr::Put(key, value) => {
+            let key = key_bytes(value_of(key, args, registers));
+            match (key, value_of(value, args, registers)) {
+                (Some(_), Some(value)) => Some(Some(value.clone()?)),
+                _ => None,
+            }
+        }
+        Instr::Insert(key, value) => {
+            let key = key_bytes(value_of(key, args, registers));
+            match (key, value_of(value, args, registers), found) {
+                (Some(_), Some(value), None) => Some(Some(value.clone()?)),
+                _ => None,
+            }
+        }
+        Instr::Delete(key) => match (key_bytes(value_of(key, args, registers)), found) {
+            (Some(_), Some(_)) => Some(None),
+            _ => None,
+        },
+        Instr::Read(..) | Instr::Add(..) | Instr::Sub(..) | Instr::AbortIf(..) => None,
+    };
+    Ok(becomes)
+}
+
 /// What an instruction asks for; a value that it writes is copied into the answer.
 #[tactic(auto, unfolding(crate::specs::Procedures::need))]
 #[inline(always)]

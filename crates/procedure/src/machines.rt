@@ -1,10 +1,11 @@
 //! The machine that executes a call one instruction at a time.
 
-ghost use Rattle.std.specs.Prelude.{◌≡◌, IfOk, OnOk, OnErr, is_some, option_copied, replicate, slice_set, None};
+ghost use Rattle.std.specs.Prelude.{◌≡◌, IfOk, OnOk, OnErr, IsSome, is_some, option_copied, replicate, slice_set, None};
+ghost use Rattle.procedure.specs.Bytes.{Cell};
 ghost use Rattle.procedure.specs.Needs.{CopiesValue, HasValue, accessed, becomes_of};
 ghost use Rattle.procedure.specs.Runs.{advanced, at_start, ended, next_need};
 
-use crate::actions::{Action, access_of, action_of, gives_value, need_of};
+use crate::actions::{Action, access_of, action_of, becomes, gives_value, need_of};
 use crate::instructions::{Code, Procedure};
 use crate::limits::REGISTERS;
 use crate::memory::NoMemory;
@@ -106,6 +107,23 @@ impl<A: Allocator + Clone> Machine<A> {
         }
     }
 
+    /// What the key of the next instruction becomes, where it holds `found`: a value or absent; None
+    /// where it stays. Only the copy of a value that is written takes memory.
+    #[inline(always)]
+    pub fn becomes(&self, found: Option<&Value<A>>) -> Result<Option<Option<Value<A>>>, NoMemory>
+        ensures value { IfOk result (λ b. b ≡ becomes_of (next_need self.now.args self.now.progress) (option_copied found.entry)) }
+        ensures memory { OnErr result (HasValue (next_need self.now.args self.now.progress)) }
+    {
+        match self.code.get(self.place) {
+            Some(instruction) => {
+                let args = self.args.as_slice();
+                let registers = self.registers.as_slice();
+                becomes(instruction, args, registers, found)
+            }
+            None => Ok(None),
+        }
+    }
+
     /// Executes the next instruction, where its key holds `found` (None where it touches no key).
     /// Only an instruction that reads takes memory. A call that has ended stays as it is.
     #[inline(always)]
@@ -169,6 +187,19 @@ impl<A: Allocator> Machine<A> {
                 gives_value(instruction, args, registers)
             }
             None => false,
+        }
+    }
+
+    /// Executes the next instruction, which changes its key. It takes no memory, and needs not be told
+    /// what the key holds, as `fed` does.
+    #[inline(always)]
+    pub fn wrote(&mut self)
+        ensures { (found : Cell) → IsSome (becomes_of (next_need self.old.args self.old.progress) found) →
+            self.new ≡ record self.old { progress = advanced self.old.args self.old.progress found } }
+    {
+        let end = self.code.len();
+        if self.place < end {
+            self.place += 1;
         }
     }
 

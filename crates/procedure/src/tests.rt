@@ -329,6 +329,26 @@ fn steps(
     Ok((reads, written, committed, [first, second, told(machine)]))
 }
 
+/// The number that the key of the next instruction becomes.
+fn becomes(machine: &Machine<Global>, found: &Literal) -> Result<Option<u64>, Fail> {
+    match machine.becomes(Some(found))? {
+        Some(Some(value)) => Ok(value.as_number()),
+        _ => Ok(None),
+    }
+}
+
+/// A write that changes its key goes on, whatever that held.
+#[test]
+fn machine_after_a_write(rt: HostRuntime) -> Result<(), Fail> {
+    let held = value(rt.alloc(), b"held")?;
+    let mut machine = first_swap(rt.alloc())?;
+    machine.fed(Some(&held))?;
+    assert_eq!(rt; becomes(&machine, &held)?, Some(2));
+    machine.wrote();
+    assert_eq!(rt; machine.ended(), Some(0));
+    Ok(())
+}
+
 /// How many replies there are, and how many arguments and replies are left of it.
 fn lengths(machine: Machine<Global>) -> (usize, usize, usize) {
     let replied = machine.replies().len();

@@ -1,13 +1,13 @@
 //! How a call executes an instruction.
 
-ghost use Rattle.std.specs.Prelude.{◌≡◌, ◌<◌, ℕ, cond, Err, IfOk, IfSome, OnErr, OnOk, None, Some, option_copied, map, suc};
+ghost use Rattle.std.specs.Prelude.{◌≡◌, ◌<◌, ℕ, cond, Err, IfOk, IfSome, IsSome, OnErr, OnOk, None, Some, option_copied, map, suc};
 ghost use Rattle.procedure.specs.Bytes.{Bytes, same};
-ghost use Rattle.procedure.specs.Needs.{CopiesValue, accessed};
+ghost use Rattle.procedure.specs.Needs.{CopiesValue, accessed, becomes_of};
 ghost use Rattle.procedure.specs.Runs.{advanced, next_need};
 ghost use Rattle.procedure.specs.declared.needs.Access.TheVariants as access;
 ghost use Rattle.procedure.specs.declared.limits.TheConstants.{INSTRUCTIONS};
 ghost use Rattle.steps.specs.inside.Instructions.{Advances, ExecutesOne, SameOpen, Wrote, fed_with, seen_in, touch_by, touch_in};
-ghost use Rattle.steps.specs.Versions.{live_version, wrote};
+ghost use Rattle.steps.specs.Versions.{live_version, versions_in, wrote};
 ghost use Rattle.steps.specs.machine.Machine.{note};
 ghost use Rattle.steps.specs.inside.RecordEdits.{IsFound, IsFoundBy, first_noted, noted_of};
 
@@ -15,7 +15,7 @@ use crate::calls::OpenCall;
 use crate::edits::{held, write_key};
 use crate::notes::Note;
 use phase::Phase;
-use procedure::{Access, Key, Machine, Need, NoMemory, Value};
+use procedure::{Access, Key, Machine, NoMemory, Value};
 use record_store::{CreateError, Store};
 use std::alloc::Allocator;
 
@@ -42,7 +42,7 @@ fn write_live<A: Allocator + Clone>(
     live: Option<Value<A>>,
 ) -> Result<(), CreateError>
     requires found { IsFound store.old key slot }
-    requires copies { CopiesValue (next_need call.old.machine.args call.old.machine.progress) → ⊥ }
+    requires changes { IsSome (becomes_of (next_need call.old.machine.args call.old.machine.progress) (live_version (versions_in store.old key))) }
     ensures ok { OnOk result (Wrote phase key live store.old call.old store.new call.new) }
     ensures err { OnErr result ((store.new ≡ store.old) × SameOpen call.old call.new) }
 {
@@ -52,7 +52,7 @@ fn write_live<A: Allocator + Clone>(
     }
     match write_key(store, key, slot, phase, call.start, live) {
         Ok(before) => {
-            feed(&mut call.machine, before.as_ref());
+            call.machine.wrote();
             call.notes.push_reserved(Note { key, before });
             Ok(())
         }
@@ -75,15 +75,12 @@ fn write<A: Allocator + Clone>(
     ensures executed { call.new.executed ≡ call.old.executed }
     ensures err { OnErr result ((store.new ≡ store.old) × SameOpen call.old call.new) }
 {
-    match call.machine.next() {
-        Ok(Need::Write(_, update)) => match update.becomes(held(store, slot)) {
-            Some(live) => write_live(store, call, key, slot, phase, live),
-            None => {
-                feed(&mut call.machine, held(store, slot));
-                Ok(())
-            }
-        },
-        Ok(_) => unreachable!(),
+    match call.machine.becomes(held(store, slot)) {
+        Ok(Some(live)) => write_live(store, call, key, slot, phase, live),
+        Ok(None) => {
+            feed(&mut call.machine, held(store, slot));
+            Ok(())
+        }
         Err(NoMemory) => Err(CreateError::NoMemory),
     }
 }

@@ -1,6 +1,6 @@
 use Rattle.std.proofs.Common.{◌++◌, ◌∷◌, [], List, map, ap, ◌∙◌, cond, refl}
 use Rattle.procedure.specs.Bytes.{same}
-use Rattle.steps.specs.inside.Instructions.{fed_with}
+use Rattle.steps.specs.Versions.{live_version, versions_in}
 use Rattle.steps.specs.inside.RecordEdits.{first_noted, noted_of}
 use Rattle.steps.specs.machine.Machine.{note}
 use Rattle.steps.specs.declared.notes.Note.{Note}
@@ -14,7 +14,7 @@ returns-in-Ok-write_key-clause-ok g c =
     record {
       begun = record { number = refl; procedure = refl; start = refl };
       executed = refl;
-      machine = c.feed.ensures ∙ ap (λ x. fed_with x old.machine) (c.as_ref.ensures.value ∙ c.in-Ok-write_key.ensures.before);
+      machine = c.wrote.ensures (live_version (versions_in c.args.store.now c.args.key)) c.requires.changes;
       notes = λ q.
           ap (λ (l : List (Note g.row.A.Denot)). first_noted (map noted_of l) q) (c.push_reserved.ensures.items ∙ ap (λ (l : List (Note g.row.A.Denot)). l ++ n ∷ []) c.reserve.ensures.items)
           ∙ noted_push old.notes.items n q
