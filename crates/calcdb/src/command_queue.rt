@@ -5,8 +5,9 @@ ghost use Rattle.procedure.specs.Bytes.{Bytes};
 ghost use Rattle.calcdb.specs.inside.Queues.{beginning, plain};
 ghost use Rattle.calcdb.specs.declared.commands.Command.{Command as SpecCommand};
 
-use crate::commands::{Command, CommandLines, Names, NewCall, command_of};
+use crate::commands::{Command, CommandLines, Names, NewCall, call_of, command_of};
 use crate::faults::unread::Unread;
+use crate::instructions::is_word;
 use image::Kind;
 use procedure::NoMemory;
 use std::alloc::Allocator;
@@ -167,6 +168,12 @@ impl<A: Allocator + Copy> CommandLines<A> for CommandQueue<A> {
 
     fn read(&mut self, names: &Names<A>, word: &[u8], rest: &[u8]) -> Result<(), Unread> {
         let alloc = self.heads.allocator().clone()?;
+        // Most commands are calls, which go to their place without a move through `Command`.
+        if is_word(word, b"call") {
+            let call = call_of(alloc, names, rest)?;
+            self.push_call(Head::Call, call)?;
+            return Ok(());
+        }
         let command = command_of(alloc, names, word, rest)?;
         self.push(command)?;
         Ok(())

@@ -184,6 +184,7 @@ pub(crate) fn session_at(most: u16, line: &[u8]) -> Result<(u16, &[u8]), Misread
     Ok((decimal_of(u64::from(most), word)? as u16, rest))
 }
 
+#[inline(always)]
 pub(crate) fn number_at(line: &[u8]) -> Result<(u64, &[u8]), Misread>
     ensures { ReadsExactly (λ p. (p.0, words p.1.now)) result (spec.number_at (words line.now)) }
 {
@@ -262,7 +263,7 @@ fn arguments_of<A: Allocator + Clone>(
 /// A session, a number, a procedure's name, and its arguments.
 #[tactic(auto, unfolding(crate::specs::Commands::new_call_of))]
 #[inline(always)]
-fn call_of<A: Allocator + Clone>(
+pub(crate) fn call_of<A: Allocator + Clone>(
     alloc: A,
     names: &Names<A>,
     line: &[u8],

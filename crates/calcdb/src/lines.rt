@@ -9,6 +9,7 @@ use crate::faults::misreads::{Misread, Quote};
 use memchr::memchr;
 
 /// Whether a byte parts words.
+#[inline(always)]
 fn is_blank(byte: u8) -> bool
     ensures { result ≡ spec.is_blank byte }
 {
@@ -21,12 +22,15 @@ fn line_end(text: &[u8]) -> Option<usize>
     memchr(b'\n', text)
 }
 
+#[inline(always)]
 fn word_end(line: &[u8]) -> Option<usize>
     ensures { result ≡ position spec.is_blank line.now }
 {
     let mut at = 0;
     while at < line.len() {
-        if is_blank(line[at]) {
+        let byte = line[at];
+        // Most bytes take the first test alone.
+        if byte <= b' ' && is_blank(byte) {
             return Some(at);
         }
         at += 1;
@@ -47,6 +51,7 @@ pub(crate) fn line_at(text: &[u8]) -> (&[u8], Option<&[u8]>)
 }
 
 /// What stands before the first blank of a line, and what after it, if there is one.
+#[inline(always)]
 fn piece_at(line: &[u8]) -> (&[u8], Option<&[u8]>)
     ensures pieces { pieces spec.is_blank line.now ≡ result.0.now ∷ left_pieces spec.is_blank (option_map (λ r. r.now) result.1) }
     ensures shorter { IfSome result.1 (λ r. length r.now < length line.now) }
@@ -73,19 +78,43 @@ fn may_stand(byte: u8) -> bool
     byte == b'\t' || (b' '..=b'~').contains(&byte)
 }
 
-/// Whether all bytes are such that a line may have.
-pub(crate) fn is_allowed(line: &[u8]) -> bool
-    ensures { result ≡ spec.all_pass spec.is_allowed line.now }
+/// Bytes that are looked at together.
+const BLOCK: usize = 16;
+
+#[inline(always)]
+fn all_may_stand(bytes: &[u8]) -> bool
+    ensures { result ≡ spec.all_pass spec.is_allowed bytes.now }
 {
     // It goes on behind the first that isn't, so that many bytes are looked at together.
     let mut all = true;
-    for byte in line {
+    for byte in bytes {
         all &= may_stand(*byte);
     }
     all
 }
 
+/// Whether all bytes are such that a line may have.
+#[inline(always)]
+pub(crate) fn is_allowed(line: &[u8]) -> bool
+    ensures { result ≡ spec.all_pass spec.is_allowed line.now }
+{
+    if line.len() < BLOCK {
+        return all_may_stand(line);
+    }
+    let mut at = 0;
+    while line.len() - at > BLOCK {
+        if !all_may_stand(&line[at..at + BLOCK]) {
+            return false;
+        }
+        at += BLOCK;
+    }
+    // The last block may begin in the one before.
+    all_may_stand(&line[line.len() - BLOCK..])
+}
+
 /// The first word of a line, if it has one, and what stands after it.
+// Most words are short, and so is what it does for one.
+#[inline(always)]
 pub(crate) fn first_word(line: &[u8]) -> Option<(&[u8], &[u8])>
     ensures words { option_map (λ p. (p.0.now, words p.1.now)) result ≡ spec.first_word (words line.now) }
     ensures shorter { IfSome result (λ p. length p.1.now < length line.now) }
@@ -103,6 +132,7 @@ pub(crate) fn first_word(line: &[u8]) -> Option<(&[u8], &[u8])>
 }
 
 /// The first word of a line, and what stands after it.
+#[inline(always)]
 pub(crate) fn word_at(line: &[u8]) -> Result<(&[u8], &[u8]), Misread>
     ensures { ReadsExactly (λ p. (p.0.now, words p.1.now)) result (spec.first_word (words line.now)) }
 {
