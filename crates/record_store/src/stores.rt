@@ -206,7 +206,7 @@ impl<A: Allocator> Store<A> {
         entries::take_stable(&mut self.slots, slot, self.number)
     }
 
-    /// Puts a stable version back that was taken. It takes no memory.
+    /// Puts a stable version back that was taken. It takes no memory, and time as `copy_stable`.
     pub fn put_stable(&mut self, slot: usize, stable: Option<Value<A>>)
         ensures { self.new ≡ changed (with_stable (Was stable)) self.old slot }
     {
@@ -354,7 +354,8 @@ impl<A: Allocator + Clone> Store<A> {
     }
 
     /// The stable version becomes a copy of the live one, whatever it was. Memory is taken only for
-    /// a live version that isn't absent.
+    /// a live version that isn't absent. The first copy in a slot behind those that had one takes time
+    /// in proportion to the slots between.
     pub fn copy_stable(&mut self, slot: usize) -> Result<(), NoMemory>
         ensures ok { OnOk result (self.new ≡ changed with_copy self.old slot) }
         ensures err { OnErr result (self.new ≡ self.old) }
