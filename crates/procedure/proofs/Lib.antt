@@ -15,5 +15,6 @@ pub mod Passes
 pub mod Fronts
 pub mod Bounds
 pub mod Writes
+pub mod Padding
 pub mod WriteProgress
 pub mod TakenBytes

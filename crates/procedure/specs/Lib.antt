@@ -10,6 +10,7 @@ pub mod Carried
 pub mod Catalogs
 pub mod CatalogBytes
 pub mod Actions
+pub mod Registers
 pub mod Machines
 pub mod Fronts
 pub mod Streams

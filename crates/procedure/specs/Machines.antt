@@ -9,7 +9,7 @@ abbrev pub execution_of : {A : Type 0} → Inside A → Execution
 execution_of m =
     record {
       args = m.args;
-      progress = record { rest = drop m.place m.code; registers = m.registers.items; replies = m.replies.items; outcome = m.outcome };
+      progress = record { rest = drop m.place m.code; registers = m.registers; replies = m.replies.items; outcome = m.outcome };
     }
 
 -- the place is within the code, and there is room for a reply of each read that is left

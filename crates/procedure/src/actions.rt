@@ -11,6 +11,7 @@ use crate::keys::Key;
 use crate::memory::NoMemory;
 use crate::needs::{Access, Need, Update};
 use crate::outcomes::{BAD_KEY, KEY_ABSENT, KEY_PRESENT, NO_VALUE, NOT_A_NUMBER, OUT_OF_RANGE};
+use crate::registers::Registers;
 use crate::values::Value;
 use std::alloc::Allocator;
 
@@ -31,16 +32,13 @@ pub(crate) enum Action<V> {
 pub(crate) fn value_of<'a, A: Allocator>(
     operand: &'a Operand<Value<A>>,
     args: &'a [Value<A>],
-    registers: &'a [Option<Value<A>>],
+    registers: &'a Registers<A>,
 ) -> Option<&'a Value<A>>
     ensures { option_copied result ≡ operand_value operand.now args.now registers.now }
 {
     match operand {
         Operand::Arg(index) => args.get(usize::from(*index)),
-        Operand::Reg(index) => match registers.get(usize::from(*index)) {
-            Some(cell) => cell.as_ref(),
-            None => None,
-        },
+        Operand::Reg(index) => registers.get(*index),
         Operand::Lit(value) => Some(value),
     }
 }
@@ -96,7 +94,7 @@ fn is_below<A: Allocator>(x: Option<&Value<A>>, y: Option<&Value<A>>) -> bool
 fn test_holds<A: Allocator>(
     test: &Test<Value<A>>,
     args: &[Value<A>],
-    registers: &[Option<Value<A>>],
+    registers: &Registers<A>,
 ) -> bool
     ensures { result ≡ holds test.now args.now registers.now }
 {
@@ -127,7 +125,7 @@ fn both_given<A: Allocator>(key: Option<&[u8]>, value: Option<&Value<A>>) -> boo
 pub(crate) fn access_of<A: Allocator>(
     instruction: &Instr<Value<A>>,
     args: &[Value<A>],
-    registers: &[Option<Value<A>>],
+    registers: &Registers<A>,
 ) -> Access
     ensures { result ≡ accessed (need instruction.now args.now registers.now) }
 {
@@ -153,7 +151,7 @@ pub(crate) fn access_of<A: Allocator>(
 pub(crate) fn gives_value<A: Allocator>(
     instruction: &Instr<Value<A>>,
     args: &[Value<A>],
-    registers: &[Option<Value<A>>],
+    registers: &Registers<A>,
 ) -> bool
     ensures { result ≡ is_some (becomes_of (need instruction.now args.now registers.now) None) }
 {
@@ -173,7 +171,7 @@ pub(crate) fn gives_value<A: Allocator>(
 pub(crate) fn becomes<A: Allocator + Clone>(
     instruction: &Instr<Value<A>>,
     args: &[Value<A>],
-    registers: &[Option<Value<A>>],
+    registers: &Registers<A>,
     found: Option<&Value<A>>,
 ) -> Result<Option<Option<Value<A>>>, NoMemory>
     ensures value { IfOk result (λ b. b ≡ becomes_of (need instruction.now args.now registers.now) (option_copied found.entry)) }
@@ -209,7 +207,7 @@ pub(crate) fn becomes<A: Allocator + Clone>(
 pub(crate) fn need_of<A: Allocator + Clone>(
     instruction: &Instr<Value<A>>,
     args: &[Value<A>],
-    registers: &[Option<Value<A>>],
+    registers: &Registers<A>,
 ) -> Result<Need<Value<A>>, NoMemory>
     ensures value { IfOk result (λ n. n ≡ need instruction.now args.now registers.now) }
     ensures memory { OnErr result (HasValue (need instruction.now args.now registers.now)) }
@@ -347,7 +345,7 @@ fn delete_action<A: Allocator>(key: Option<&[u8]>, found: Option<&Value<A>>) -> 
 pub(crate) fn action_of<A: Allocator + Clone>(
     instruction: &Instr<Value<A>>,
     args: &[Value<A>],
-    registers: &[Option<Value<A>>],
+    registers: &Registers<A>,
     found: Option<&Value<A>>,
 ) -> Result<Action<Value<A>>, NoMemory>
     ensures value { IfOk result

@@ -21,6 +21,7 @@ pub mod needs;
 pub mod outcomes;
 #[cfg(test)]
 mod refusal_tests;
+pub mod registers;
 pub mod runs;
 pub mod sequences;
 pub mod streams;
@@ -37,6 +38,7 @@ pub use keys::Key;
 pub use machines::Machine;
 pub use memory::NoMemory;
 pub use needs::{Access, Need, Update};
+pub use registers::Registers;
 pub use runs::{Alone, Finished, run_alone, run_whole};
 pub use sequences::Sequence;
 pub use tables::{Changes, KeyMap, Table};

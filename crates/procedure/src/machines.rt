@@ -7,13 +7,13 @@ ghost use Rattle.procedure.specs.Runs.{advanced, at_start, ended, next_need};
 
 use crate::actions::{Action, access_of, action_of, becomes, gives_value, need_of};
 use crate::instructions::{Code, Procedure};
-use crate::limits::REGISTERS;
 use crate::memory::NoMemory;
 use crate::needs::{Access, Need};
 use crate::outcomes::COMMITTED;
+use crate::registers::Registers;
 use crate::sequences::Sequence;
 use crate::values::Value;
-use std::alloc::{AllocError, Allocator};
+use std::alloc::Allocator;
 use std::marker::Model;
 
 /// A call in its course, seen by contracts as its arguments and its progress: what is left of the
@@ -26,7 +26,7 @@ pub struct Machine<A: Allocator> {
     code: Code<A>,
     args: Sequence<Value<A>, A>,
     place: usize,
-    registers: Vec<Option<Value<A>>, A>,
+    registers: Registers<A>,
     replies: Vec<Option<Value<A>>, A>,
     outcome: u8,
 }
@@ -43,32 +43,10 @@ impl<A: Allocator> Model for Machine<A> {
     ghost invariant = { IsRunning };
 }
 
-fn absent_registers<A: Allocator>(alloc: A) -> Result<Vec<Option<Value<A>>, A>, AllocError>
-    ensures { IfOk result (λ r. r.items ≡ replicate REGISTERS None) }
-{
-    let mut registers = Vec::with_capacity(alloc, REGISTERS)?;
-    for _register in 0..REGISTERS {
-        registers.push_reserved(None);
-    }
-    Ok(registers)
-}
-
-fn set_register<A: Allocator>(
-    registers: &mut Vec<Option<Value<A>>, A>,
-    register: u8,
-    cell: Option<Value<A>>,
-)
-    ensures { registers.new.items ≡ slice_set registers.old.items register cell }
-{
-    let index = usize::from(register);
-    if index < registers.len() {
-        registers[index] = cell;
-    }
-}
-
 impl<A: Allocator + Clone> Machine<A> {
-    /// A machine at the start of a call. It shares the procedure's code and makes room for all replies,
-    /// so that no step needs any. An argument that the procedure names and that isn't there is absent.
+    /// A machine at the start of a call. It shares the procedure's code and makes room for all replies
+    /// and registers, so that no step needs any. An argument that the procedure names and that isn't
+    /// there is absent.
     #[inline(always)]
     pub fn start(
         alloc: A,
@@ -77,8 +55,23 @@ impl<A: Allocator + Clone> Machine<A> {
     ) -> Result<Self, NoMemory>
         ensures { IfOk result (λ m. m ≡ record { args = args; progress = at_start procedure.now.code }) }
     {
+        let registers = Registers::new(alloc.clone()?)?;
+        Machine::start_with(alloc, registers, procedure, args)
+    }
+
+    /// As `start`, in the room of the registers of an earlier call, which are cleared.
+    #[inline(always)]
+    pub fn start_with(
+        alloc: A,
+        registers: Registers<A>,
+        procedure: &Procedure<A>,
+        args: Sequence<Value<A>, A>,
+    ) -> Result<Self, NoMemory>
+        ensures { IfOk result (λ m. m ≡ record { args = args; progress = at_start procedure.now.code }) }
+    {
+        let mut registers = registers;
+        registers.clear();
         let code = procedure.code.clone()?;
-        let registers = absent_registers(alloc.clone()?)?;
         let replies = Vec::with_capacity(alloc, code.read_count())?;
         Ok(Machine {
             code,
@@ -100,7 +93,7 @@ impl<A: Allocator + Clone> Machine<A> {
         match self.code.get(self.place) {
             Some(instruction) => {
                 let args = self.args.as_slice();
-                let registers = self.registers.as_slice();
+                let registers = &self.registers;
                 need_of(instruction, args, registers)
             }
             None => Ok(Need::Ended(self.outcome)),
@@ -117,7 +110,7 @@ impl<A: Allocator + Clone> Machine<A> {
         match self.code.get(self.place) {
             Some(instruction) => {
                 let args = self.args.as_slice();
-                let registers = self.registers.as_slice();
+                let registers = &self.registers;
                 becomes(instruction, args, registers, found)
             }
             None => Ok(None),
@@ -139,14 +132,14 @@ impl<A: Allocator + Clone> Machine<A> {
             return Ok(());
         };
         let args = self.args.as_slice();
-        let registers = self.registers.as_slice();
+        let registers = &self.registers;
         match action_of(instruction, args, registers, found)? {
             Action::Set(register, cell) => {
-                set_register(&mut self.registers, register, cell);
+                self.registers.set(register, cell);
                 self.place += 1;
             }
             Action::Load(register, cell, reply) => {
-                set_register(&mut self.registers, register, cell);
+                self.registers.set(register, cell);
                 self.replies.push_reserved(reply);
                 self.place += 1;
             }
@@ -168,7 +161,7 @@ impl<A: Allocator> Machine<A> {
         match self.code.get(self.place) {
             Some(instruction) => {
                 let args = self.args.as_slice();
-                let registers = self.registers.as_slice();
+                let registers = &self.registers;
                 access_of(instruction, args, registers)
             }
             None => Access::Ended(self.outcome),
@@ -183,7 +176,7 @@ impl<A: Allocator> Machine<A> {
         match self.code.get(self.place) {
             Some(instruction) => {
                 let args = self.args.as_slice();
-                let registers = self.registers.as_slice();
+                let registers = &self.registers;
                 gives_value(instruction, args, registers)
             }
             None => false,
@@ -221,12 +214,19 @@ impl<A: Allocator> Machine<A> {
         self.replies.as_slice()
     }
 
-    /// The arguments and the replies, without taking memory.
+    /// The arguments, the replies, and the registers for the room that they have, without taking memory.
     #[inline(always)]
-    pub fn into_parts(self) -> (Sequence<Value<A>, A>, Sequence<Option<Value<A>>, A>)
+    pub fn into_parts(
+        self,
+    ) -> (
+        Sequence<Value<A>, A>,
+        Sequence<Option<Value<A>>, A>,
+        Registers<A>,
+    )
         ensures args { result.0 ≡ self.args }
         ensures replies { result.1 ≡ self.progress.replies }
+        ensures registers { result.2 ≡ self.progress.registers }
     {
-        (self.args, Sequence::new(self.replies))
+        (self.args, Sequence::new(self.replies), self.registers)
     }
 }

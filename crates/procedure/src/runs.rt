@@ -172,7 +172,7 @@ pub fn run_alone<A: Allocator + Copy>(
     let mut machine = Machine::start(alloc.clone()?, procedure, args)?;
     let mut changes = Changes::new(alloc.clone()?);
     let outcome = run_machine(&mut machine, &mut changes, table)?;
-    let (_, replies) = machine.into_parts();
+    let (_, replies, _) = machine.into_parts();
     Ok(Alone {
         outcome,
         replies,
@@ -372,7 +372,7 @@ pub fn run_whole<A: Allocator + Clone>(
     let mut table = table;
     let mut before = Vec::new(alloc);
     let outcome = carry_out(&mut machine, &mut table, &mut before)?;
-    let (_, replies) = machine.into_parts();
+    let (_, replies, _) = machine.into_parts();
     let table = settled(outcome, table, &mut before)?;
     Ok(Finished {
         outcome,

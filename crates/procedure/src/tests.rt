@@ -352,7 +352,7 @@ fn machine_after_a_write(rt: HostRuntime) -> Result<(), Fail> {
 /// How many replies there are, and how many arguments and replies are left of it.
 fn lengths(machine: Machine<Global>) -> (usize, usize, usize) {
     let replied = machine.replies().len();
-    let (args, replies) = machine.into_parts();
+    let (args, replies, _) = machine.into_parts();
     (replied, args.len(), replies.len())
 }
 

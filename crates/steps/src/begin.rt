@@ -14,13 +14,13 @@ use crate::arguments::Arguments;
 use crate::calls::OpenCall;
 use crate::cores::Core;
 use crate::errors::BeginError;
-use crate::notes::begin_notes;
+use crate::notes::{Room, put_back, room_for};
 use phase::Phase;
 use procedure::limits::SESSIONS;
 use procedure::{Machine, NoMemory, Procedure};
 use std::alloc::Allocator;
 
-/// A call at its start.
+/// A call at its start, in the room that an earlier call left, if one did.
 fn new_call<A: Allocator + Clone>(
     alloc: &A,
     procedure: &Procedure<A>,
@@ -28,6 +28,7 @@ fn new_call<A: Allocator + Clone>(
     index: u16,
     start: Phase,
     args: Arguments<A>,
+    left: &mut Option<Room<A>>,
 ) -> Result<OpenCall<A>, NoMemory>
     requires { IsTrue (all_fit args) }
     ensures call { IfOk result (λ c. underway c ≡ record { number = number; procedure = index; args = args; start = start; count = 0 }) }
@@ -35,14 +36,15 @@ fn new_call<A: Allocator + Clone>(
     ensures notes { IfOk result (λ c. c.notes.items ≡ []) }
 {
     let values = args.into_values(alloc.clone()?)?;
-    let machine = Machine::start(alloc.clone()?, procedure, values)?;
+    let Room { notes, registers } = room_for(alloc, left)?;
+    let machine = Machine::start_with(alloc.clone()?, registers, procedure, values)?;
     Ok(OpenCall {
         number,
         procedure: index,
         start,
         executed: 0,
         machine,
-        notes: Vec::new(alloc.clone()?),
+        notes,
     })
 }
 
@@ -97,6 +99,7 @@ impl<A: Allocator + Clone> Core<A> {
         number: u64,
         procedure: u16,
         args: Arguments<A>,
+        left: &mut Option<Room<A>>,
     ) -> Result<OpenCall<A>, BeginError>
         ensures refusal { Answers (begin_refusal self.now session number procedure args) refused.NoMemory result }
         ensures call { IfOk result (λ c. underway c ≡ record { number = number; procedure = procedure; args = args; start = phase_of self.now.log; count = 0 }) }
@@ -105,7 +108,7 @@ impl<A: Allocator + Clone> Core<A> {
     {
         let start = self.phase();
         let code = self.check_begin(session, number, procedure, &args)?;
-        match new_call(&self.alloc, code, number, procedure, start, args) {
+        match new_call(&self.alloc, code, number, procedure, start, args, left) {
             Ok(call) => Ok(call),
             Err(NoMemory) => Err(BeginError::NoMemory),
         }
@@ -124,9 +127,11 @@ impl<A: Allocator + Clone> Core<A> {
         ensures refused { OnErr result (self.new ≡ self.old) }
         ensures refusal { Answers (begin_refusal self.old session number procedure args) refused.NoMemory result }
     {
-        let mut call = self.prepare(session, number, procedure, args)?;
+        let mut left = self.rooms.pop();
+        let prepared = self.prepare(session, number, procedure, args, &mut left);
+        put_back(&mut self.rooms, left);
+        let call = prepared?;
         let index = usize::from(session);
-        begin_notes(&mut self.rooms, &mut call.notes);
         self.active.set(index, self.phase);
         self.calls[index] = Some(call);
         Ok(())

@@ -20,7 +20,7 @@ use crate::calls::{OpenCall, call_of, taken};
 use crate::cores::Core;
 use crate::edits::{collect, copy_of, keep_all, undo_all};
 use crate::errors::FinishError;
-use crate::notes::{Note, keep_room};
+use crate::notes::{Note, Room, keep_room};
 use commitlog::{Log, Record};
 use phase::Phase;
 use procedure::outcomes::COMMITTED;
@@ -103,7 +103,7 @@ fn settle<A: Allocator>(
     }
 }
 
-/// A call that ended goes into the log, and its writes are settled. The room of its notes is given back.
+/// A call that ended goes into the log, and its writes are settled. Its room is given back.
 fn end_call<A: Allocator>(
     store: &mut Store<A>,
     changed: &mut Changed<A>,
@@ -112,7 +112,7 @@ fn end_call<A: Allocator>(
     call: OpenCall<A>,
     outcome: u8,
     phase: Phase,
-) -> Vec<Note<A>, A>
+) -> Room<A>
     requires range { IsInRange (Answered session call.number call.procedure call.machine.args outcome call.machine.progress.replies) }
     requires notes { length call.notes.items ≤ room changed.old }
     requires not_full { length log.old.records ≢ LOG_RECORDS }
@@ -134,7 +134,7 @@ fn end_call<A: Allocator>(
         machine,
         mut notes,
     } = call;
-    let (args, replies) = machine.into_parts();
+    let (args, replies, registers) = machine.into_parts();
     let ended = Call {
         session,
         number,
@@ -143,7 +143,7 @@ fn end_call<A: Allocator>(
     };
     settle(store, changed, &mut notes, outcome, start, phase);
     append(log, record_of(ended, outcome, replies));
-    notes
+    Room { notes, registers }
 }
 
 fn copy_of_replies<A: Allocator + Clone>(
@@ -241,7 +241,7 @@ impl<A: Allocator> Core<A> {
         match taken(&mut self.calls, index) {
             Some(call) => {
                 let number = call.number;
-                let notes = end_call(
+                let room = end_call(
                     &mut self.store,
                     &mut self.changed,
                     &mut self.log,
@@ -250,7 +250,7 @@ impl<A: Allocator> Core<A> {
                     outcome,
                     phase,
                 );
-                keep_room(&mut self.rooms, notes);
+                keep_room(&mut self.rooms, room);
                 self.locks.release_all(index);
                 self.aside = self.aside.after_release();
                 self.active.clear(index);

@@ -7,7 +7,7 @@ use crate::calls::taken;
 use crate::cores::Core;
 use crate::edits::undo_all;
 use crate::errors::NotActive;
-use crate::notes::keep_room;
+use crate::notes::{Room, keep_room};
 use std::alloc::Allocator;
 
 impl<A: Allocator> Core<A> {
@@ -22,7 +22,12 @@ impl<A: Allocator> Core<A> {
         match taken(&mut self.calls, index) {
             Some(mut call) => {
                 undo_all(&mut self.store, &mut call.notes);
-                keep_room(&mut self.rooms, call.notes);
+                let (_, _, registers) = call.machine.into_parts();
+                let room = Room {
+                    notes: call.notes,
+                    registers,
+                };
+                keep_room(&mut self.rooms, room);
                 self.locks.release_all(index);
                 self.aside = self.aside.after_release();
                 self.active.clear(index);

@@ -1,8 +1,8 @@
-//! What a write replaced.
+//! What a write replaced, and the room that a call leaves.
 
-ghost use Rattle.std.specs.Prelude.{◌≡◌, []};
+ghost use Rattle.std.specs.Prelude.{◌≡◌, [], IfOk};
 
-use procedure::{Key, Value};
+use procedure::{Key, NoMemory, Registers, Value};
 use std::alloc::Allocator;
 
 /// The live version that a key had before a write: a value, or None where it was absent.
@@ -12,25 +12,48 @@ pub(crate) struct Note<A: Allocator> {
     pub(crate) before: Option<Value<A>>,
 }
 
-/// The room for notes that calls left, of which the next call takes the last.
-// So calls that follow one another use the same memory, whatever their sessions.
-pub(crate) type Rooms<A> = Vec<Vec<Note<A>, A>, A>;
-
-/// The notes of a call that begins: none, in the room that an earlier call left.
-pub(crate) fn begin_notes<A: Allocator>(rooms: &mut Rooms<A>, notes: &mut Vec<Note<A>, A>)
-    ensures { notes.new.items ≡ [] }
-{
-    if let Some(room) = rooms.pop() {
-        *notes = room;
-    }
-    notes.clear();
+/// What a call leaves to a later one: the room of its notes and of its machine's registers.
+#[derive(Drop)]
+pub(crate) struct Room<A: Allocator> {
+    pub(crate) notes: Vec<Note<A>, A>,
+    pub(crate) registers: Registers<A>,
 }
 
-/// The room of a call's notes is kept for a later call, where there is a place for it.
+/// The room that calls left, of which the next call takes the last.
+// So calls that follow one another use the same memory, whatever their sessions.
+pub(crate) type Rooms<A> = Vec<Room<A>, A>;
+
+/// The room of a call that begins, without notes: what an earlier call left, or else new room.
+pub(crate) fn room_for<A: Allocator + Clone>(
+    alloc: &A,
+    left: &mut Option<Room<A>>,
+) -> Result<Room<A>, NoMemory>
+    ensures { IfOk result (λ room. room.notes.items ≡ []) }
+{
+    if let Some(mut room) = left.take() {
+        room.notes.clear();
+        return Ok(room);
+    }
+    Ok(Room {
+        notes: Vec::new(alloc.clone()?),
+        registers: Registers::new(alloc.clone()?)?,
+    })
+}
+
+/// Room is kept for a later call, without what stood in it, where there is a place for it.
 #[inline(always)]
-pub(crate) fn keep_room<A: Allocator>(rooms: &mut Rooms<A>, mut notes: Vec<Note<A>, A>) {
-    notes.clear();
+pub(crate) fn keep_room<A: Allocator>(rooms: &mut Rooms<A>, mut room: Room<A>) {
+    room.notes.clear();
+    room.registers.clear();
     if rooms.len() < rooms.capacity() {
-        rooms.push_reserved(notes);
+        rooms.push_reserved(room);
+    }
+}
+
+/// Room that the call that was to begin has not taken is kept for another.
+#[inline(always)]
+pub(crate) fn put_back<A: Allocator>(rooms: &mut Rooms<A>, left: Option<Room<A>>) {
+    if let Some(room) = left {
+        keep_room(rooms, room);
     }
 }

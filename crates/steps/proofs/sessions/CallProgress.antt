@@ -17,7 +17,7 @@ use Rattle.steps.specs.CoreViews.{CoreView, IsSmall, Underway, OfOpen, front_of,
 use Rattle.steps.specs.Refusals.{refused_unless, unfinished, finish_refusal}
 use Rattle.steps.specs.inside.Endings.{unanswered}
 use Rattle.steps.specs.declared.calls.OpenCall.{OpenCall}
-use Rattle.steps.specs.declared.notes.Note.{Note}
+use Rattle.steps.specs.declared.notes.Room.{Room}
 use Rattle.steps.specs.declared.cores.Core.TheInside.{Inside}
 use Rattle.steps.specs.declared.errors.FinishError.TheVariants as refused
 use Rattle.steps.proofs.sessions.EndedCall.{machine_is}
@@ -87,7 +87,7 @@ module _ {A : Type 0} (c : Inside A) (ok : IsCore c) (v : CoreView) (same : view
 module _ {A : Type 0} (c : Inside A) (ok : IsCore c) where
   -- More room, or less of it, changes nothing that stands for the machine.
   pub roomy_fields :
-      (calls : Vec (Option (OpenCall A)) A) (log : Log) (changed : ChangedSets) (rooms : Vec (Vec (Note A) A) A) → calls.items ≡ c.calls.items → log.records ≡ c.log.records →
+      (calls : Vec (Option (OpenCall A)) A) (log : Log) (changed : ChangedSets) (rooms : Vec (Room A) A) → calls.items ≡ c.calls.items → log.records ≡ c.log.records →
       changed.collecting ≡ c.changed.collecting → changed.frozen ≡ c.changed.frozen → IsCore (record c { calls = calls; log = log; changed = changed; rooms = rooms })
   roomy_fields calls log changed rooms same_calls e f h = record {
     world = ok.world;
@@ -125,7 +125,7 @@ module _ {A : Type 0} (c : Inside A) (ok : IsCore c) where
       IsCore (record c { log = log; changed = changed })
   roomy_core log changed = roomy_fields c.calls log changed c.rooms refl
 
-  pub other_rooms : (rooms : Vec (Vec (Note A) A) A) → IsCore (record c { rooms = rooms })
+  pub other_rooms : (rooms : Vec (Room A) A) → IsCore (record c { rooms = rooms })
   other_rooms rooms = roomy_fields c.calls c.log c.changed rooms refl refl refl refl
 
 pub roomy_view :

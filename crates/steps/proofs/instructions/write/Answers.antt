@@ -1,4 +1,4 @@
-use Rattle.std.proofs.Common.{◌≡◌, IsSome, Option, Some, refl, sym, ap, ◌∙◌, subst, is_some}
+use Rattle.std.proofs.Common.{IsSome, Option, ap, ◌∙◌, subst, is_some}
 use Rattle.procedure.specs.Bytes.{Cell}
 use Rattle.procedure.specs.Needs.{Writes, becomes_of}
 use Rattle.procedure.specs.Runs.{next_need}

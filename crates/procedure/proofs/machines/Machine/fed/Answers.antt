@@ -1,5 +1,5 @@
 use Rattle.std.specs.Prelude.{count_by}
-use Rattle.std.proofs.Common.{◌≡◌, ℕ, ◌+◌, ◌<◌, ◌≤◌, ◌^◌, List, [], ◌∷◌, ◌++◌, length, drop, vec_capacity, option_copied, refl, sym, ap, subst, arith, length-append}
+use Rattle.std.proofs.Common.{refl, ◌≡◌, ℕ, ◌+◌, ◌<◌, ◌≤◌, ◌^◌, List, [], ◌∷◌, ◌++◌, length, drop, vec_capacity, option_copied, refl, sym, ap, subst, arith, length-append}
 use Rattle.procedure.specs.Needs.{CopiesValue}
 use Rattle.procedure.specs.Procedures.{is_read}
 use Rattle.procedure.specs.Runs.{Execution, Progress, advanced, next_need}
@@ -10,15 +10,15 @@ use Rattle.procedure.proofs.machines.Machine.fed.Goals as goal
 pub returns-in_default-clause-ok : goal.returns-in_default-clause-ok
 returns-in_default-clause-ok g c =
     let m = c.self.inside in
-    let e = advanced_past m.args m.code m.place m.registers.items m.replies.items m.outcome (option_copied c.args.found) c.in_default.ensures.value in
+    let e = advanced_past m.args m.code m.place m.registers m.replies.items m.outcome (option_copied c.args.found) c.in_default.ensures.value in
     subst (λ (x : Execution). x ≡ record { args = x.args; progress = advanced x.args x.progress (option_copied c.args.found) }) c.self.view_is
     (ap (λ (p : Progress). record { args = m.args; progress = p }) (sym e))
 
 pub returns-in_err-register-clause-memory : goal.returns-in_err-register-clause-memory
 returns-in_err-register-clause-memory g c =
     let m = c.self.inside in
-    let e = need_here m.args m.code m.place m.registers.items m.replies.items m.outcome c.in-Some.instruction.now c.in-Some.ensures.value
-    c.as_slice-args.result.now c.as_slice-args.ensures c.as_slice-registers.result.now c.as_slice-registers.ensures.value in
+    let e = need_here m.args m.code m.place m.registers m.replies.items m.outcome c.in-Some.instruction.now c.in-Some.ensures.value
+    c.as_slice-args.result.now c.as_slice-args.ensures m.registers refl in
     on_err _
     (subst (λ (x : Execution). CopiesValue (next_need x.args x.progress)) c.self.view_is
     (subst CopiesValue e c.in_err-register.ensures.memory))
@@ -26,40 +26,40 @@ returns-in_err-register-clause-memory g c =
 pub returns-in-Set-clause-ok : goal.returns-in-Set-clause-ok
 returns-in-Set-clause-ok g c =
     let m = c.self.inside in
-    let after : Progress = record { rest = drop (m.place + 1) m.code; registers = c.set_register.new.registers.items; replies = m.replies.items; outcome = m.outcome } in
+    let after : Progress = record { rest = drop (m.place + 1) m.code; registers = c.set.new.self; replies = m.replies.items; outcome = m.outcome } in
     subst (λ (x : Execution). record { args = m.args; progress = after } ≡ record { args = x.args; progress = advanced x.args x.progress (option_copied c.args.found) }) c.self.view_is
     (ap (λ (p : Progress). record { args = m.args; progress = p })
-    (after_set m.args m.code m.place m.registers.items m.replies.items m.outcome (option_copied c.args.found) c.in-Some.instruction.now c.in-Some.ensures.value
-    c.as_slice-args.result.now c.as_slice-args.ensures c.as_slice-registers.result.now c.as_slice-registers.ensures.value c.in_ok-register.field-0 c.in_ok-register.ensures.value
-    c.in-Set.register c.in-Set.cell c.in-Set.is c.set_register.new.registers.items c.set_register.ensures))
+    (after_set m.args m.code m.place m.registers m.replies.items m.outcome (option_copied c.args.found) c.in-Some.instruction.now c.in-Some.ensures.value
+    c.as_slice-args.result.now c.as_slice-args.ensures m.registers refl c.in_ok-register.field-0 c.in_ok-register.ensures.value
+    c.in-Set.register c.in-Set.cell c.in-Set.is c.set.new.self c.set.ensures))
 
 pub returns-in-Load-clause-ok : goal.returns-in-Load-clause-ok
 returns-in-Load-clause-ok g c =
     let m = c.self.inside in
-    let after : Progress = record { rest = drop (m.place + 1) m.code; registers = c.set_register-in-Load.new.registers.items; replies = c.push_reserved.new.self.items; outcome = m.outcome } in
+    let after : Progress = record { rest = drop (m.place + 1) m.code; registers = c.set-in-Load.new.self; replies = c.push_reserved.new.self.items; outcome = m.outcome } in
     subst (λ (x : Execution). record { args = m.args; progress = after } ≡ record { args = x.args; progress = advanced x.args x.progress (option_copied c.args.found) }) c.self.view_is
     (ap (λ (p : Progress). record { args = m.args; progress = p })
-    (after_load m.args m.code m.place m.registers.items m.replies.items m.outcome (option_copied c.args.found) c.in-Some.instruction.now c.in-Some.ensures.value
-    c.as_slice-args.result.now c.as_slice-args.ensures c.as_slice-registers.result.now c.as_slice-registers.ensures.value c.in_ok-register.field-0 c.in_ok-register.ensures.value
-    c.in-Load.register c.in-Load.cell c.in-Load.reply c.in-Load.is c.set_register-in-Load.new.registers.items _ c.set_register-in-Load.ensures c.push_reserved.ensures.items))
+    (after_load m.args m.code m.place m.registers m.replies.items m.outcome (option_copied c.args.found) c.in-Some.instruction.now c.in-Some.ensures.value
+    c.as_slice-args.result.now c.as_slice-args.ensures m.registers refl c.in_ok-register.field-0 c.in_ok-register.ensures.value
+    c.in-Load.register c.in-Load.cell c.in-Load.reply c.in-Load.is c.set-in-Load.new.self _ c.set-in-Load.ensures c.push_reserved.ensures.items))
 
 pub returns-in-Pass-clause-ok : goal.returns-in-Pass-clause-ok
 returns-in-Pass-clause-ok g c =
     let m = c.self.inside in
-    let after : Progress = record { rest = drop (m.place + 1) m.code; registers = m.registers.items; replies = m.replies.items; outcome = m.outcome } in
+    let after : Progress = record { rest = drop (m.place + 1) m.code; registers = m.registers; replies = m.replies.items; outcome = m.outcome } in
     subst (λ (x : Execution). record { args = m.args; progress = after } ≡ record { args = x.args; progress = advanced x.args x.progress (option_copied c.args.found) }) c.self.view_is
     (ap (λ (p : Progress). record { args = m.args; progress = p })
-    (after_pass m.args m.code m.place m.registers.items m.replies.items m.outcome (option_copied c.args.found) c.in-Some.instruction.now c.in-Some.ensures.value
-    c.as_slice-args.result.now c.as_slice-args.ensures c.as_slice-registers.result.now c.as_slice-registers.ensures.value c.in_ok-register.field-0 c.in_ok-register.ensures.value c.in-Pass.is))
+    (after_pass m.args m.code m.place m.registers m.replies.items m.outcome (option_copied c.args.found) c.in-Some.instruction.now c.in-Some.ensures.value
+    c.as_slice-args.result.now c.as_slice-args.ensures m.registers refl c.in_ok-register.field-0 c.in_ok-register.ensures.value c.in-Pass.is))
 
 pub returns-in-End-clause-ok : goal.returns-in-End-clause-ok
 returns-in-End-clause-ok g c =
     let m = c.self.inside in
-    let after : Progress = record { rest = drop c.len-end.result m.code; registers = m.registers.items; replies = m.replies.items; outcome = c.in-End.code } in
+    let after : Progress = record { rest = drop c.len-end.result m.code; registers = m.registers; replies = m.replies.items; outcome = c.in-End.code } in
     subst (λ (x : Execution). record { args = m.args; progress = after } ≡ record { args = x.args; progress = advanced x.args x.progress (option_copied c.args.found) }) c.self.view_is
     (ap (λ (p : Progress). record { args = m.args; progress = p })
-    (after_end m.args m.code m.place m.registers.items m.replies.items m.outcome (option_copied c.args.found) c.in-Some.instruction.now c.in-Some.ensures.value
-    c.as_slice-args.result.now c.as_slice-args.ensures c.as_slice-registers.result.now c.as_slice-registers.ensures.value c.in_ok-register.field-0 c.in_ok-register.ensures.value
+    (after_end m.args m.code m.place m.registers m.replies.items m.outcome (option_copied c.args.found) c.in-Some.instruction.now c.in-Some.ensures.value
+    c.as_slice-args.result.now c.as_slice-args.ensures m.registers refl c.in_ok-register.field-0 c.in_ok-register.ensures.value
     c.in-End.code c.in-End.is c.len-end.result c.len-end.ensures))
 
 within : (place n : ℕ) → place < n → place + 1 ≤ n
@@ -94,7 +94,7 @@ overflow_add-self-in-Pass g c = record { fits = next_fits c.self.inside.place (l
 pub push_reserved-requires : goal.push_reserved-requires
 push_reserved-requires g c =
     let m = c.self.inside in
-    let read = load_is_read c.as_slice-registers.result.now c.in-Some.instruction.now c.as_slice-args.result.now (option_copied c.args.found) c.in_ok-register.field-0
+    let read = load_is_read c.self.inside.registers c.in-Some.instruction.now c.as_slice-args.result.now (option_copied c.args.found) c.in_ok-register.field-0
     c.in-Load.register c.in-Load.cell c.in-Load.reply c.in-Load.is c.in_ok-register.ensures.value in
     room_left (length m.replies.items) (count_by is_read (drop m.place m.code)) (count_by is_read (drop (m.place + 1) m.code)) (vec_capacity m.replies) c.self.invariant.room m.replies.len m.replies.ok.0
     (reads_after_read m.code m.place c.in-Some.instruction.now c.in-Some.ensures.value read)
@@ -109,7 +109,7 @@ pub invariant_of-self-in-Load : goal.invariant_of-self-in-Load
 invariant_of-self-in-Load g c =
     let m = c.self.inside in
     let after = c.push_reserved.new.self in
-    let read = load_is_read c.as_slice-registers.result.now c.in-Some.instruction.now c.as_slice-args.result.now (option_copied c.args.found) c.in_ok-register.field-0
+    let read = load_is_read c.self.inside.registers c.in-Some.instruction.now c.as_slice-args.result.now (option_copied c.args.found) c.in_ok-register.field-0
     c.in-Load.register c.in-Load.cell c.in-Load.reply c.in-Load.is c.in_ok-register.ensures.value in
     record {
       within = within m.place (length m.code) (c.in-Some.ensures.within.0 refl);

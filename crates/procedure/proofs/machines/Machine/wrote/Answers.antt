@@ -15,14 +15,14 @@ invariant_of-self g c =
 pub returns-then-self-end : goal.returns-then-self-end
 returns-then-self-end g c found some =
     let m = c.self.inside in
-    let after : Progress = record { rest = drop (m.place + 1) m.code; registers = m.registers.items; replies = m.replies.items; outcome = m.outcome } in
+    let after : Progress = record { rest = drop (m.place + 1) m.code; registers = m.registers; replies = m.replies.items; outcome = m.outcome } in
     subst (λ (x : Execution). IsSome (becomes_of (next_need x.args x.progress) found) → record { args = m.args; progress = after } ≡ record { args = x.args; progress = advanced x.args x.progress found })
     c.self.view_is
-    (λ here. ap (λ (p : Progress). record { args = m.args; progress = p }) (after_write m.args m.code m.place m.registers.items m.replies.items m.outcome found here))
+    (λ here. ap (λ (p : Progress). record { args = m.args; progress = p }) (after_write m.args m.code m.place m.registers m.replies.items m.outcome found here))
     some
 
 pub returns-else-self-end : goal.returns-else-self-end
 returns-else-self-end g c found some =
     let m = c.self.inside in
-    absurd (no_write_past m.args m.code m.place m.registers.items m.replies.items m.outcome found (omega arith)
+    absurd (no_write_past m.args m.code m.place m.registers m.replies.items m.outcome found (omega arith)
     (subst (λ (x : Execution). IsSome (becomes_of (next_need x.args x.progress) found)) (sym c.self.view_is) some))

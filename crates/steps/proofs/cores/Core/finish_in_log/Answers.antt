@@ -27,8 +27,8 @@ same_call :
     {A : Type 0} (k d : OpenCall A) (i : ℕ) {l m : List (Option (OpenCall A))} → Some k ≡ slice_index_or l i None → l ≡ m → Some d ≡ slice_index_or m i None → k ≡ d
 same_call k d i found same taken = same_Some (found ∙ ap (λ l. slice_index_or l i None) same ∙ sym taken)
 
-pub end_call-notes-requires-clause-range : goal.end_call-notes-requires-clause-range
-end_call-notes-requires-clause-range g c =
+pub end_call-room-requires-clause-range : goal.end_call-room-requires-clause-range
+end_call-room-requires-clause-range g c =
     let is : call_at c.self.inside c.args.session ≡ Some c.in-Some-taken.call = ap (call_at c.self.inside) (sym c.from-index.ensures) ∙ sym c.in-Some-taken.ensures.value in
     let one = same_call c.in-Some.call.now c.in-Some-taken.call c.from-index.result c.in-Some.ensures c.as_slice.ensures.value c.in-Some-taken.ensures.value in
     let outcome = c.in_ok-outcome.ensures.outcome ∙ ap (λ (k : OpenCall g.row.A.Denot). k.machine.progress.outcome) one in
@@ -59,7 +59,7 @@ taken_open g c = ap (call_at c.self.inside) (sym c.from-index.ensures) ∙ sym c
 
 -- what its answer makes of the parts of the core
 answered : (g : Over) (c : After-clear g) → IsAnswered c.self.inside c.args.session c.in-Some-taken.call
-    c.end_call-notes.new.log c.end_call-notes.new.store c.release_all.new.self c.end_call-notes.new.changed c.taken.new.kept c.clear.new.self
+    c.end_call-room.new.log c.end_call-room.new.store c.release_all.new.self c.end_call-room.new.changed c.taken.new.kept c.clear.new.self
     (with_item c.self.inside.last c.from-index.result (Some c.in-Some-taken.call.number)) c.after_release-self-inside.result c.in_ok-outcome.outcome
 answered g c =
     let one = same_call c.in-Some.call.now c.in-Some-taken.call c.from-index.result c.in-Some.ensures c.as_slice.ensures.value c.in-Some-taken.ensures.value in
@@ -67,18 +67,18 @@ answered g c =
     record {
       outcome = c.in_ok-outcome.ensures.outcome ∙ ap (λ (k : OpenCall g.row.A.Denot). k.machine.progress.outcome) one;
       ends = ap (λ (k : OpenCall g.row.A.Denot). is_nil k.machine.progress.rest) (sym one) ∙ done.0;
-      log_is = c.end_call-notes.ensures.log ∙ ap (λ (l : List Record). l ++ Call c.args.session c.in-Some-taken.call.number c.in-Some-taken.call.procedure c.in-Some-taken.call.machine.args
+      log_is = c.end_call-room.ensures.log ∙ ap (λ (l : List Record). l ++ Call c.args.session c.in-Some-taken.call.number c.in-Some-taken.call.procedure c.in-Some-taken.call.machine.args
           c.in_ok-outcome.outcome c.in-Some-taken.call.machine.progress.replies ∷ []) c.make_room.ensures.records;
       calls_are = c.in-Some-taken.ensures.some ∙ ap (λ i. slice_set c.self.inside.calls.items i None) c.from-index.ensures;
-      versions = c.end_call-notes.ensures.versions;
-      collecting = λ (q : Bytes). c.end_call-notes.ensures.collecting q ∙ ap (λ (k : KeySet). cond (c.in_ok-outcome.outcome == COMMITTED)
+      versions = c.end_call-room.ensures.versions;
+      collecting = λ (q : Bytes). c.end_call-room.ensures.collecting q ∙ ap (λ (k : KeySet). cond (c.in_ok-outcome.outcome == COMMITTED)
           (is_some (first_noted (map noted_of c.in-Some-taken.call.notes.items) q) || has k q) (has k q)) c.make_room.ensures.collecting;
-      frozen = c.end_call-notes.ensures.frozen ∙ c.make_room.ensures.frozen;
+      frozen = c.end_call-room.ensures.frozen ∙ c.make_room.ensures.frozen;
       locks_are = c.release_all.ensures ∙ ap (without_locks c.self.inside.locks) c.from-index.ensures;
       starts = c.clear.ensures ∙ ap (λ i. slice_set c.self.inside.active i None) c.from-index.ensures;
       last_is = ap (λ i. slice_set c.self.inside.last.items i (Some c.in-Some-taken.call.number)) c.from-index.ensures;
-      most = c.end_call-notes.ensures.most;
-      keys = c.end_call-notes.ensures.keys;
+      most = c.end_call-room.ensures.most;
+      keys = c.end_call-room.ensures.keys;
       aside_is = c.after_release-self-inside.ensures;
     }
 
@@ -91,7 +91,7 @@ pub returns-in-Some-taken-clause-finished : goal.returns-in-Some-taken-clause-fi
 returns-in-Some-taken-clause-finished g c =
     let at = (goal.at.returns-in-Some-taken-clause-finished g c).After-clear in
     finish_view c.self.inside c.self.invariant c.args.session c.in-Some-taken.call (taken_open g at) _ _ _ _ _ _ _ _ _ (answered g at)
-    c.end_call-notes.ensures.slots c.end_call-notes.ensures.same c.args.self.now c.self.view_is
+    c.end_call-room.ensures.slots c.end_call-room.ensures.same c.args.self.now c.self.view_is
 
 pub returns-in_default-clause-refusal : goal.returns-in_default-clause-refusal
 returns-in_default-clause-refusal g c =
@@ -109,8 +109,8 @@ returns-in-Err-clause-refusal g c =
     let is = found_at c.self.inside (Some c.in-Some.call.now) c.from-index.ensures c.as_slice.ensures.value c.in-Some.ensures in
     inr (found_refusal c.self.inside c.self.invariant c.args.self.now c.self.view_is c.args.session c.in-Some.call.now is c.is_full.result c.is_full.ensures.value ∙ sym c.in_ok-outcome.ensures.refusal, refl)
 
-pub end_call-notes-requires-clause-not_full : goal.end_call-notes-requires-clause-not_full
-end_call-notes-requires-clause-not_full g c =
+pub end_call-room-requires-clause-not_full : goal.end_call-room-requires-clause-not_full
+end_call-room-requires-clause-not_full g c =
     let done = ready c.in-Some.call.now.machine.progress c.is_full.result (sym c.in_ok-outcome.ensures.refusal) in
     λ e. true≢false (sym (c.is_full.ensures.value.1 (ap length (sym c.make_room.ensures.records) ∙ e)) ∙ done.1)
 
