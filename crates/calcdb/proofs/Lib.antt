@@ -13,6 +13,7 @@ pub mod FirstBytes
 pub mod Keeping
 pub mod Lawful
 pub mod LinesAfter
+pub mod Listings
 pub mod LiveRuns
 pub mod Loading
 pub mod MadeFiles

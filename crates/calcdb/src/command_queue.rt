@@ -5,9 +5,10 @@ ghost use Rattle.procedure.specs.Bytes.{Bytes};
 ghost use Rattle.calcdb.specs.inside.Queues.{beginning, plain};
 ghost use Rattle.calcdb.specs.declared.commands.Command.{Command as SpecCommand};
 
-use crate::commands::{Command, CommandLines, Names, NewCall, call_of, command_of};
+use crate::commands::{Command, CommandLines, NewCall, call_of, command_of};
 use crate::faults::unread::Unread;
 use crate::instructions::is_word;
+use crate::names::Names;
 use image::Kind;
 use procedure::NoMemory;
 use std::alloc::Allocator;

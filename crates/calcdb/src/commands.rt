@@ -1,20 +1,20 @@
 //! Lines of commands.
 
-ghost use Rattle.std.specs.Prelude.{◌≡◌, ◌∷◌, List, map, option_copied};
+ghost use Rattle.std.specs.Prelude.{◌≡◌, ◌∷◌, List, map};
 ghost use Rattle.calcdb.specs.Reads.{ReadsAs, ReadsExactly};
 ghost use Rattle.calcdb.specs.Commands as spec;
-ghost use Rattle.calcdb.specs.Lines.{all_pass, words};
+ghost use Rattle.calcdb.specs.Lines.{words};
 ghost use Rattle.calcdb.specs.Values.{held_value_of, value_of};
 
 use crate::faults::misreads::{Misread, Quote};
 use crate::faults::unread::Unread;
 use crate::instructions::is_word;
 use crate::lines::{end_of, first_word, word_at};
+use crate::names::{Defined, Names};
 use crate::values::{decimal_of, held_of, value_of};
 use image::Kind;
-use procedure::{Key, KeyMap, Sequence, Value};
+use procedure::{Sequence, Value};
 use std::alloc::Allocator;
-use std::marker::Model;
 use steps::Arguments;
 
 /// The call that a command begins.
@@ -73,86 +73,6 @@ pub(crate) enum CommandName {
     Abandon,
 }
 
-/// A procedure that is defined, seen by contracts as its number.
-#[derive(Drop)]
-pub(crate) struct Defined {
-    number: u16,
-    /// How many arguments it takes.
-    arity: u8,
-}
-
-impl Model for Defined {
-    ghost use Rattle.std.specs.Prelude.{ℕ};
-    ghost use Rattle.std.specs.Coded.{coded_ℕ};
-
-    ghost Value = { ℕ };
-
-    ghost coded = { coded_ℕ };
-
-    ghost view = { λ p. p.number };
-}
-
-impl Defined {
-    pub(crate) fn new(number: u16, arity: u8) -> Self
-        ensures { result ≡ number }
-    {
-        Defined { number, arity }
-    }
-
-    pub(crate) fn number(&self) -> u16
-        ensures { result ≡ self.now }
-    {
-        self.number
-    }
-
-    pub(crate) fn arity(&self) -> u8 {
-        self.arity
-    }
-}
-
-/// Each procedure that is defined, by its name.
-pub(crate) type Names<A> = KeyMap<Defined, A>;
-
-fn is_letter_or_digit(word: &[u8]) -> bool
-    ensures { result ≡ all_pass spec.is_letter_or_digit word.now }
-{
-    for byte in word {
-        if !matches!(*byte, b'a'..=b'z' | b'0'..=b'9') {
-            return false;
-        }
-    }
-    true
-}
-
-/// Whether a word may be a procedure's name.
-pub(crate) fn is_name(word: &[u8]) -> bool
-    ensures { result ≡ spec.is_name word.now }
-{
-    match word {
-        [first, ..] => word.len() <= 32
-            && matches!(*first, b'a'..=b'z')
-            && is_letter_or_digit(word),
-        [] => false,
-    }
-}
-
-/// The procedure with this name.
-#[inline(always)]
-pub(crate) fn procedure_of<'a, A: Allocator>(
-    names: &'a Names<A>,
-    word: &[u8],
-) -> Option<&'a Defined>
-    ensures { option_copied result ≡ spec.procedure_of names.now word.now }
-{
-    if !is_name(word) {
-        return None;
-    }
-    match Key::new(word) {
-        Some(key) => names.get(&key),
-        None => None,
-    }
-}
-
 /// Commands that lines add to, one after another.
 pub(crate) trait CommandLines<A: Allocator>: Sized {
     ghost use Rattle.std.specs.Prelude.{◌≡◌, ◌∷◌, List, Option};
@@ -200,7 +120,7 @@ pub(crate) fn procedure_at<'a, A: Allocator>(
     ensures { ReadsExactly (λ p. (p.0.now, words p.1.now)) result (spec.procedure_at names.now (words line.now)) }
 {
     let (word, rest) = word_at(line)?;
-    match procedure_of(names, word) {
+    match names.procedure_of(word) {
         Some(procedure) => Ok((procedure, rest)),
         None => Err(Misread::NoProcedure(Quote::of(word))),
     }

@@ -16,6 +16,7 @@ fn is_blank(byte: u8) -> bool
     byte == b' ' || byte == b'\t'
 }
 
+#[inline(always)]
 fn line_end(text: &[u8]) -> Option<usize>
     ensures { result ≡ position spec.is_line_feed text.now }
 {

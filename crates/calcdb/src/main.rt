@@ -28,6 +28,7 @@ mod live_files;
 mod live_runs;
 mod looking;
 mod merge_files;
+mod names;
 mod new_files;
 mod other_images;
 mod output;

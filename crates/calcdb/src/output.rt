@@ -83,6 +83,7 @@ pub(crate) fn push_value<A: Allocator + Clone>(
 }
 
 /// A value, or `-`.
+#[inline(always)]
 pub(crate) fn push_cell<A: Allocator + Clone, B: Allocator>(
     out: &mut Vec<u8, A>,
     cell: &Option<Value<B>>,

@@ -12,15 +12,15 @@ ghost use Rattle.calcdb.specs.Reads.{ReadsAs, ReadsExactly};
 ghost use Rattle.calcdb.specs.declared.scripts.ScriptFault.TheVariants as fault;
 ghost use Rattle.calcdb.specs.declared.scripts.TheConstants.{SCRIPT_BYTES};
 
-use crate::commands::{Defined, Names, is_name, procedure_of};
 use crate::faults::misreads::{FaultyLine, Misread, Quote};
 use crate::faults::unread::Unread;
 use crate::instructions::{instruction_of, is_word};
 use crate::lines::{end_of, first_word, is_allowed, is_skipped, line_at, without_return, word_at};
+use crate::names::{Defined, Names, is_name};
 use crate::scripts::{SCRIPT_BYTES, ScriptFault};
 use crate::values::decimal_of;
 use procedure::limits::{ARGUMENTS, INSTRUCTIONS, PROCEDURES};
-use procedure::{Catalog, Code, Instr, Key, KeyMap, Procedure, Sequence, Value};
+use procedure::{Catalog, Code, Instr, Key, Procedure, Sequence, Value};
 use std::alloc::{AllocError, Allocator};
 use std::marker::Model;
 
@@ -147,7 +147,7 @@ fn new_name<'a, A: Allocator>(
     if !is_name(word) {
         return Err(Misread::NoName(Quote::of(word)));
     }
-    match procedure_of(names, word) {
+    match names.procedure_of(word) {
         Some(_) => Err(Misread::SameName(Quote::of(word))),
         None => Ok((word, rest)),
     }
@@ -184,7 +184,7 @@ impl<A: Allocator + Copy> Said<A> {
         ensures { result ≡ spec.nothing_said }
     {
         Said {
-            names: KeyMap::new(alloc),
+            names: Names::new(alloc),
             procedures: Vec::new(alloc),
             block: None,
         }

@@ -52,6 +52,7 @@ pub(crate) enum Shown<A: Allocator> {
 }
 
 /// Answers a session's call; it is given up where that is refused.
+#[inline(always)]
 fn end_call<A: Allocator>(core: &mut Core<A>, session: u16) -> Shown<A>
     ensures { Carried {A = A} (Ends session) core.old core.new (shown_text core.new.log result) (images_shown result) }
 {
@@ -66,6 +67,7 @@ fn end_call<A: Allocator>(core: &mut Core<A>, session: u16) -> Shown<A>
 
 /// Steps of a session's call until it is ready, at most `count`, and its end; it is given up where a
 /// step is refused.
+#[inline(always)]
 fn go_on<A: Allocator + Clone>(core: &mut Core<A>, session: u16, count: usize) -> Shown<A>
     ensures { Carried {A = A} (GoesOn count session) core.old core.new (shown_text core.new.log result) (images_shown result) }
 {
@@ -147,9 +149,10 @@ fn take_image<A: Allocator>(core: &mut Core<A>) -> Shown<A>
     }
 }
 
-/// Carries out a command, and hands on what is printed of it.
-#[inline(always)]
-pub(crate) fn carry_out<A: Allocator + Clone>(
+/// Carries out any command, and hands on what is printed of it.
+// It stands apart from `carry_out`, since what few commands need would cost each call its stores.
+#[inline(never)]
+fn carry_out_any<A: Allocator + Clone>(
     core: &mut Core<A>,
     command: Command<Arguments<A>>,
 ) -> Shown<A>
@@ -177,6 +180,20 @@ pub(crate) fn carry_out<A: Allocator + Clone>(
         Command::TakeImage => take_image(core),
         Command::Reclaim => Shown::Reply(Reply::Reclaim(core.reclaim())),
         Command::Abandon => Shown::Reply(Reply::Abandon(core.abandon())),
+    }
+}
+
+/// Carries out a command, and hands on what is printed of it.
+#[inline(always)]
+pub(crate) fn carry_out<A: Allocator + Clone>(
+    core: &mut Core<A>,
+    command: Command<Arguments<A>>,
+) -> Shown<A>
+    ensures { Carried {A = A} (Carries core.old.catalog command) core.old core.new (shown_text core.new.log result) (images_shown result) }
+{
+    match command {
+        Command::Call(call) => run_call(core, call),
+        other => carry_out_any(core, other),
     }
 }
 
@@ -224,6 +241,7 @@ fn push_reply<A: Allocator + Clone>(out: &mut Vec<u8, A>, reply: &Reply<A>) -> R
 }
 
 /// The line of the answer that stands at a place of the log.
+#[inline(always)]
 fn push_answered<A: Allocator + Clone>(
     out: &mut Vec<u8, A>,
     records: &[Record<A>],
@@ -303,6 +321,7 @@ fn fixed_line<A: Allocator>(shown: &Shown<A>) -> Option<&'static [u8]>
 }
 
 /// Writes a line.
+#[inline(always)]
 fn write_line<W: Write>(writer: &mut W, line: &[u8]) -> Result<(), Fault>
     ensures { Sent result (W.contents writer.old) (W.contents writer.new) line.now }
 {
@@ -312,9 +331,10 @@ fn write_line<W: Write>(writer: &mut W, line: &[u8]) -> Result<(), Fault>
     }
 }
 
-/// Writes the lines that are printed of a command, those of an image one by one.
-#[inline(always)]
-fn write_shown<W: Write, A: Allocator + Clone>(
+/// Writes the lines that are printed of any command, those of an image one by one.
+// It stands apart as `carry_out_any` does.
+#[inline(never)]
+fn write_any<W: Write, A: Allocator + Clone>(
     writer: &mut W,
     line: &mut Vec<u8, A>,
     records: &[Record<A>],
@@ -329,6 +349,27 @@ fn write_shown<W: Write, A: Allocator + Clone>(
         return write_line(writer, fixed);
     }
     match print_line(line, records, shown) {
+        Ok(()) => {}
+        Err(NoMemory) => return Err(Fault::NoMemory),
+    }
+    write_line(writer, line.as_slice())
+}
+
+/// Writes the lines that are printed of a command.
+#[inline(always)]
+fn write_shown<W: Write, A: Allocator + Clone>(
+    writer: &mut W,
+    line: &mut Vec<u8, A>,
+    records: &[Record<A>],
+    shown: &Shown<A>,
+) -> Result<(), Fault>
+    ensures { Sent result (W.contents writer.old) (W.contents writer.new) (shown_text records.now shown.now) }
+{
+    let Shown::Answered(place) = shown else {
+        return write_any(writer, line, records, shown);
+    };
+    line.clear();
+    match push_answered(line, records, *place) {
         Ok(()) => write_line(writer, line.as_slice()),
         Err(NoMemory) => Err(Fault::NoMemory),
     }

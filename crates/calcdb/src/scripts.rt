@@ -9,11 +9,12 @@ ghost use Rattle.calcdb.specs.Reads.{ReadsAs};
 ghost use Rattle.calcdb.specs.Scripts as spec;
 
 use crate::command_queue::CommandQueue;
-use crate::commands::{CommandLines, Names};
+use crate::commands::CommandLines;
 use crate::faults::misreads::{FaultyLine, Misread};
 use crate::faults::unread::Unread;
 use crate::line_by_line::{LineReader, read_lines};
 use crate::lines::{first_word, is_allowed, is_comment};
+use crate::names::Names;
 use crate::preambles::{Preamble, read_preamble};
 use crate::thread_commands::ThreadCommands;
 use procedure::Catalog;

@@ -8,12 +8,13 @@ ghost use Rattle.calcdb.specs.ThreadCommands as spec;
 ghost use Rattle.calcdb.specs.Values.{held_value_of};
 
 use crate::commands::{
-    CommandLines, Names, NewCall, kind_of, number_at, procedure_at, session_at, values_of,
+    CommandLines, NewCall, kind_of, number_at, procedure_at, session_at, values_of,
 };
 use crate::faults::misreads::{Misread, Quote};
 use crate::faults::unread::Unread;
 use crate::instructions::is_word;
 use crate::lines::{end_of, word_at};
+use crate::names::Names;
 use crate::values::key_of;
 use image::Kind;
 use procedure::limits::SESSIONS;

@@ -15,7 +15,7 @@ returns g c =
     let ws = words c.args.line.now in
     let room : length s.procedures < PROCEDURES = omega (arith, c.if-len-ge-PROCEDURES.false, c.len.ensures, c.self.inside.procedures.ok.0) in
     let count : c.len-2.result ≡ length s.procedures = c.len-2.ensures ∙ c.self.inside.procedures.ok.0 in
-    let named : c.insert.new.self ≡ map.insert s.names name (length s.procedures) = c.in_ok-insert.ensures.ok ∙ ap (λ (n : ℕ). map.insert s.names name n) (c.new-defined.ensures ∙ count) in
+    let named : c.insert.new.self ≡ map.insert s.names name (length s.procedures) = c.in_ok-insert.ensures ∙ ap (λ (n : ℕ). map.insert s.names name n) (c.new-defined.ensures ∙ count) in
     let same : with_block s name b ≡ new = rw (named, c.new.ensures) refl in
     subst (λ (x : Said). said_after_heading x c.args.number ws ≡ Some new) c.self.view_is
     (block_opens s c.args.number ws name c.in_ok-name.arity room c.in_ok-name.ensures.value ∙ ap Some same)

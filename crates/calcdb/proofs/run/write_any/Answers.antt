@@ -2,7 +2,7 @@ use Rattle.std.proofs.Common.{subst, sym}
 use Rattle.calcdb.specs.Runs.{Sent, shown_text}
 use Rattle.calcdb.specs.declared.run.Shown.{Shown}
 use Rattle.calcdb.proofs.Shown.{sent_lines}
-use Rattle.calcdb.proofs.run.write_shown.Goals as goal
+use Rattle.calcdb.proofs.run.write_any.Goals as goal
 
 pub returns-in-Image : goal.returns-in-Image
 returns-in-Image g c =

@@ -7,7 +7,7 @@ use Rattle.calcdb.specs.Runs.{Carried, Carries, images_shown, reply_text, shown_
 use Rattle.calcdb.specs.declared.commands.Command.{Command}
 use Rattle.calcdb.specs.declared.commands.Command.TheVariants as command
 use Rattle.calcdb.proofs.Carrying.{one, one_begin, one_event}
-use Rattle.calcdb.proofs.run.carry_out.Goals as goal
+use Rattle.calcdb.proofs.run.carry_out_any.Goals as goal
 
 pub returns-in-Step : goal.returns-in-Step
 returns-in-Step g c =
